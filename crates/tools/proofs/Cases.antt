@@ -1,0 +1,98 @@
+-- The cases of the number routines' definitions: one law for each answer. Assumes nothing.
+use Prim.Native.Nat.{ℕ, zero, suc, _+_, _-_, _*_, _^_, _≤_, _<_}
+use mathlib.Core.Path.{_≡_, refl, sym, ap, _∙_}
+use mathlib.Core.List.{List, _++_}
+use borrow.Author.Tests.{eq-eqb, ne-eqb, lt-ltb, le-ltb, le-leb, lt-leb}
+use lib.IntN.{ℤ, natAbs}
+use lib.ListN.{length, getD, take, drop}
+use Rattle.tools.specs.Answers.{Gives}
+use Rattle.tools.specs.Vint.{vintLength, vintValue, readVint, vintBytes, vintWidth, asVint, asVintWithLength}
+use Rattle.tools.specs.SignedVint.{signedWidth, asSignedVint, asSignedVintWithLength}
+use Rattle.tools.specs.Twos.{bitsOf}
+use Rattle.tools.specs.declared.errors.ToolError.the-variants.{ReadVintOverflow, WriteVintOverflow, WriteSignedVintOverflow, WidthMismatch, OutputTooShort}
+use Rattle.tools.specs.declared.vint.ReadVint.the-variants.{NeedMore, Refused, Vint}
+use Rattle.tools.specs.declared.vint.Written.the-variants as written
+
+pub gives : {A : Type 0} {r : A} {o : List ℕ} {p : A × List ℕ} → p ≡ (r, o) → Gives r o p
+gives {A} e = record { answer = ap (λ (q : A × List ℕ). q .0) (sym e); bytes = ap (λ (q : A × List ℕ). q .1) (sym e) }
+
+-- ---- readVint
+
+pub read-none : (s : List ℕ) → length s ≡ 0 → readVint s ≡ NeedMore
+unfolding readVint
+read-none s h = simp (eq-eqb _ _ h)
+
+module _ (s : List ℕ) (some : length s ≡ 0 → ⊥) where
+  pub read-zero : getD s 0 0 ≡ 0 → readVint s ≡ Refused ReadVintOverflow
+  unfolding readVint
+  read-zero h = simp (ne-eqb _ _ some, eq-eqb _ _ h)
+
+  pub read-short : (getD s 0 0 ≡ 0 → ⊥) → length s < vintLength (getD s 0 0) → readVint s ≡ NeedMore
+  unfolding readVint
+  read-short n h = simp (ne-eqb _ _ some, ne-eqb _ _ n, lt-ltb _ _ h)
+
+  pub read-whole : (getD s 0 0 ≡ 0 → ⊥) → vintLength (getD s 0 0) ≤ length s
+      → readVint s ≡ Vint (vintValue (vintLength (getD s 0 0)) (take (vintLength (getD s 0 0)) s)) (vintLength (getD s 0 0))
+  unfolding readVint
+  read-whole n h = simp (ne-eqb _ _ some, ne-eqb _ _ n, le-ltb _ _ h)
+
+-- ---- asVintWithLength and asVint
+
+module _ (v L : ℕ) (out : List ℕ) where
+  pub width-none : L ≡ 0 → asVintWithLength v L out ≡ (written.Refused WidthMismatch, out)
+  unfolding asVintWithLength
+  width-none h = simp (eq-eqb _ _ h)
+
+  pub width-over : (L ≡ 0 → ⊥) → 8 < L → asVintWithLength v L out ≡ (written.Refused WidthMismatch, out)
+  unfolding asVintWithLength
+  width-over n h = simp (ne-eqb _ _ n, lt-ltb _ _ h)
+
+  module _ (n : L ≡ 0 → ⊥) (w : L ≤ 8) where
+    pub value-over : 2 ^ (7 * L) ≤ v → asVintWithLength v L out ≡ (written.Refused WriteVintOverflow, out)
+    unfolding asVintWithLength
+    value-over h = simp (ne-eqb _ _ n, le-ltb _ _ w, le-leb _ _ h)
+
+    pub out-short : v < 2 ^ (7 * L) → length out < L → asVintWithLength v L out ≡ (written.Refused OutputTooShort, out)
+    unfolding asVintWithLength
+    out-short f h = simp (ne-eqb _ _ n, le-ltb _ _ w, lt-leb _ _ f, lt-ltb _ _ h)
+
+    pub vint-written : v < 2 ^ (7 * L) → L ≤ length out → asVintWithLength v L out ≡ (written.Length L, vintBytes L v ++ drop L out)
+    unfolding asVintWithLength
+    vint-written f h = simp (ne-eqb _ _ n, le-ltb _ _ w, lt-leb _ _ f, le-ltb _ _ h)
+
+pub least-over : (v : ℕ) (out : List ℕ) → 2 ^ 56 ≤ v → asVint v out ≡ (written.Refused WriteVintOverflow, out)
+unfolding asVint
+least-over v out h = rw (le-leb _ _ h)
+
+pub least-written : (v : ℕ) (out : List ℕ) → v < 2 ^ 56 → asVint v out ≡ asVintWithLength v (vintWidth v) out
+unfolding asVint
+least-written v out h = rw (lt-leb _ _ h)
+
+-- ---- asSignedVint and asSignedVintWithLength
+
+pub signed-least-over : (z : ℤ) (out : List ℕ) → 2 ^ 55 ≤ natAbs z → asSignedVint z out ≡ (written.Refused WriteSignedVintOverflow, out)
+unfolding asSignedVint
+signed-least-over z out h = rw (le-leb _ _ h)
+
+pub signed-least-written : (z : ℤ) (out : List ℕ) → natAbs z < 2 ^ 55
+    → asSignedVint z out ≡ asVintWithLength (bitsOf (7 * signedWidth z) z) (signedWidth z) out
+unfolding asSignedVint
+signed-least-written z out h = rw (lt-leb _ _ h)
+
+module _ (z : ℤ) (L : ℕ) (out : List ℕ) where
+  pub signed-width-none : L ≡ 0 → asSignedVintWithLength z L out ≡ (written.Refused WidthMismatch, out)
+  unfolding asSignedVintWithLength
+  signed-width-none h = simp (eq-eqb _ _ h)
+
+  pub signed-width-over : (L ≡ 0 → ⊥) → 8 < L → asSignedVintWithLength z L out ≡ (written.Refused WidthMismatch, out)
+  unfolding asSignedVintWithLength
+  signed-width-over n h = simp (ne-eqb _ _ n, lt-ltb _ _ h)
+
+  module _ (n : L ≡ 0 → ⊥) (w : L ≤ 8) where
+    pub signed-over : 2 ^ (7 * L - 1) ≤ natAbs z → asSignedVintWithLength z L out ≡ (written.Refused WriteSignedVintOverflow, out)
+    unfolding asSignedVintWithLength
+    signed-over h = simp (ne-eqb _ _ n, le-ltb _ _ w, le-leb _ _ h)
+
+    pub signed-written : natAbs z < 2 ^ (7 * L - 1) → asSignedVintWithLength z L out ≡ asVintWithLength (bitsOf (7 * L) z) L out
+    unfolding asSignedVintWithLength
+    signed-written h = simp (ne-eqb _ _ n, le-ltb _ _ w, lt-leb _ _ h)

@@ -1,0 +1,141 @@
+-- RFC 8794, section 4: `readVint` answers a value exactly where the octets of a VINT stand in front, and what the writers write is the
+-- VINT of the value. Assumes nothing.
+use Prim.Native.Nat.{ℕ, zero, suc, _+_, _-_, _*_, _/_, _%_, _^_, _≤_, _<_}
+use mathlib.Core.Path.{_≡_, refl, sym, ap, _∙_, subst}
+use mathlib.Core.Bool.{Bool, true, false}
+use mathlib.Core.List.{List, [], _∷_, _++_}
+use native.Mathlib.Omega.{arith}
+use native.Mathlib.Decide.{decLe}
+use native.Mathlib.Nat.{lt-of-lt-of-le, add-sub-cancel-left, mod-eq-of-lt, le-div-iff-mul-le, pow-suc}
+use native.Mathlib.Numerals.{add-one}
+use lib.Count.{leadingZeros, leading-unique, leading-of-zero}
+use lib.ListN.{length, getD, take, drop, length-append}
+use lib.Pow.{pow-add, pow-mono, pow-pos, shr-lt}
+use lib.Seq.{take-at, length-take-le}
+use Rattle.tools.specs.Bytes.{Octets, beNumber, beBytes}
+use Rattle.tools.specs.Vint.{IsVint, vintLength, vintValue, readVint, vintBytes, vintWidth}
+use Rattle.tools.specs.declared.errors.ToolError.the-variants.{ReadVintOverflow}
+use Rattle.tools.specs.declared.vint.ReadVint.{ReadVint}
+use Rattle.tools.specs.declared.vint.ReadVint.the-variants.{NeedMore, Refused, Vint}
+use Rattle.tools.proofs.BigEndian.{length-beBytes, octets-beBytes, octets-take, be-bytes, bytes-be}
+use Rattle.tools.proofs.Cases.{read-none, read-zero, read-short, read-whole}
+use Rattle.tools.proofs.Marker.{length-le-8, Marked, marked}
+
+-- ---- what is read is a VINT
+
+-- octets of a VINT stand at the front of s, and are all there
+pub record Front (L v : ℕ) (s : List ℕ) : Type 0 where
+  pub whole : L ≤ length s
+  pub vint : IsVint L v (take L s)
+
+front : (s : List ℕ) → Octets s → (length s ≡ 0 → ⊥) → (getD s 0 0 ≡ 0 → ⊥) → vintLength (getD s 0 0) ≤ length s
+    → Front (vintLength (getD s 0 0)) (vintValue (vintLength (getD s 0 0)) (take (vintLength (getD s 0 0)) s)) s
+front s byte n z h =
+    let L = vintLength (getD s 0 0) in
+    let m : Marked L (beNumber (take L s)) = marked s byte (omega arith) (omega arith) h in
+    record {
+      whole = h;
+      vint = record {
+        at-least-1 = omega arith;
+        at-most-8 = length-le-8 (getD s 0 0) (omega arith) (byte 0);
+        count = length-take-le L s h;
+        bytes = octets-take L s byte;
+        marked = omega arith;
+        below = omega arith;
+      };
+    }
+
+never : {A : Type 0} → _≡_ {A = ℕ} 0 1 → A
+never e = absurd (omega arith)
+
+pub read-sound : (s : List ℕ) (L v : ℕ) → Octets s → readVint s ≡ Vint v L → Front L v s
+read-sound s L v byte e = none-or (decLe 1 (length s))
+  where
+    whole-or : (length s ≡ 0 → ⊥) → (getD s 0 0 ≡ 0 → ⊥) → Dec (vintLength (getD s 0 0) ≤ length s) → Front L v s
+    whole-or n z (yes h) =
+        let r = read-whole s n z h in
+        let l : vintLength (getD s 0 0) ≡ L = cc in
+        let w : vintValue (vintLength (getD s 0 0)) (take (vintLength (getD s 0 0)) s) ≡ v = cc in
+        rw (← w, ← l) (front s byte n z h)
+    whole-or n z (no f) =
+        let h : length s < vintLength (getD s 0 0) = omega arith in
+        let r = read-short s n z h in
+        let no : _≡_ {A = ℕ} 0 1 = cc in
+        never no
+
+    zero-or : (length s ≡ 0 → ⊥) → Dec (1 ≤ getD s 0 0) → Front L v s
+    zero-or n (yes h) = whole-or n (λ e. omega arith) (decLe (vintLength (getD s 0 0)) (length s))
+    zero-or n (no f) =
+        let z : getD s 0 0 ≡ 0 = omega arith in
+        let r = read-zero s n z in
+        let no : _≡_ {A = ℕ} 0 1 = cc in
+        never no
+
+    none-or : Dec (1 ≤ length s) → Front L v s
+    none-or (yes h) = zero-or (λ e. omega arith) (decLe 1 (getD s 0 0))
+    none-or (no f) =
+        let z : length s ≡ 0 = omega arith in
+        let r = read-none s z in
+        let no : _≡_ {A = ℕ} 0 1 = cc in
+        never no
+
+-- ---- a VINT is read
+
+-- the first byte of a vint of k + 1 bytes has k leading zeros
+first-zeros : (k v : ℕ) → k ≤ 7 → v < 2 ^ (7 * suc k) → leadingZeros 8 ((2 ^ (7 * suc k) + v) / 2 ^ (8 * k) % 256) ≡ k
+first-zeros k v l h =
+    let j = 7 - k in
+    let q = (2 ^ (7 * suc k) + v) / 2 ^ (8 * k) in
+    let e : 2 ^ (7 * suc k) ≡ 2 ^ j * 2 ^ (8 * k) = ap (λ (x : ℕ). 2 ^ x) (omega arith) ∙ pow-add 2 j (8 * k) in
+    let e2 : 2 ^ (suc j + 8 * k) ≡ 2 ^ (7 * suc k) * 2 = ap (λ (x : ℕ). 2 ^ x) (omega arith) ∙ pow-suc 2 (7 * suc k) in
+    let lo : 2 ^ j ≤ q = le-div-iff-mul-le (pow-pos (8 * k)) .1 (omega arith) in
+    let hi : q < 2 ^ suc j = shr-lt (suc j) (8 * k) (omega arith) in
+    let jl : suc j ≤ 8 = omega arith in
+    let byte : q < 256 = lt-of-lt-of-le hi (pow-mono jl) in
+    rw (mod-eq-of-lt byte) (sym (leading-unique 8 q k (suc j) (omega arith) hi (omega (arith, pow-suc 2 j))))
+
+marked-below : (k v : ℕ) → v < 2 ^ (7 * suc k) → 2 ^ (7 * suc k) + v < 2 ^ (8 * suc k)
+marked-below k v h =
+    let l : suc (7 * suc k) ≤ 8 * suc k = omega arith in
+    lt-of-lt-of-le (subst (λ (x : ℕ). 2 ^ (7 * suc k) + v < x) (sym (pow-suc 2 (7 * suc k))) (omega arith)) (pow-mono l)
+
+-- the bytes that are written are read back
+pub round-trip : (L v : ℕ) (rest : List ℕ) → 1 ≤ L → L ≤ 8 → v < 2 ^ (7 * L) → readVint (vintBytes L v ++ rest) ≡ Vint v L
+unfolding beBytes
+round-trip zero v rest p l h = absurd (omega arith)
+round-trip (suc k) v rest p l h =
+    let N = 2 ^ (7 * suc k) + v in
+    let s : List ℕ = vintBytes (suc k) v ++ rest in
+    let z : leadingZeros 8 (getD s 0 0) ≡ k = first-zeros k v (omega arith) h in
+    let nz : getD s 0 0 ≡ 0 → ⊥ = λ e. not-eight (sym z ∙ ap (leadingZeros 8) e ∙ leading-of-zero 8) in
+    let le : vintLength (getD s 0 0) ≤ length s = rw z (omega (arith, length-append (beBytes k N) rest, length-beBytes k N)) in
+    let fits : N < 2 ^ (8 * suc k) = marked-below k v h in
+    read-whole s (λ e. omega arith) nz le
+    ∙ rw (z, add-one, take-at (vintBytes (suc k) v) rest (suc k) (length-beBytes (suc k) N), be-bytes (suc k) N fits, add-sub-cancel-left (2 ^ (7 * suc k)) v)
+  where
+    not-eight : k ≡ 8 → ⊥
+    not-eight e = omega arith
+
+-- what is written is a VINT of the value
+pub written-is : (L v : ℕ) → 1 ≤ L → L ≤ 8 → v < 2 ^ (7 * L) → IsVint L v (vintBytes L v)
+written-is zero v p l h = absurd (omega arith)
+written-is (suc k) v p l h =
+    let N = 2 ^ (7 * suc k) + v in
+    record {
+      at-least-1 = p;
+      at-most-8 = l;
+      count = length-beBytes (suc k) N;
+      bytes = octets-beBytes (suc k) N;
+      marked = be-bytes (suc k) N (marked-below k v h);
+      below = h;
+    }
+
+-- and the only one of that length
+pub written-only : (L v : ℕ) (octets : List ℕ) → IsVint L v octets → octets ≡ vintBytes L v
+written-only L v octets i =
+    sym (bytes-be octets (i .bytes)) ∙ rw (i .count, i .marked)
+
+-- where the octets of a VINT stand in front, its value and its length are answered
+pub read-complete : (L v : ℕ) (octets rest : List ℕ) → IsVint L v octets → readVint (octets ++ rest) ≡ Vint v L
+read-complete L v octets rest i =
+    ap (λ (o : List ℕ). readVint (o ++ rest)) (written-only L v octets i) ∙ round-trip L v rest (i .at-least-1) (i .at-most-8) (i .below)

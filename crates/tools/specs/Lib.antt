@@ -1,0 +1,8 @@
+pub mod Refusals
+pub mod Answers
+pub mod Bytes
+pub mod Vint
+pub mod Twos
+pub mod SignedVint
+pub mod Integer
+pub mod Float

@@ -1,0 +1,14 @@
+-- Document 01, "Refusal numbers": the number of each refusal of a number routine.
+use Prim.Native.Nat.{ℕ}
+use Rattle.tools.specs.declared.errors.ToolError.{ToolError}
+use Rattle.tools.specs.declared.errors.ToolError.the-variants.{ReadVintOverflow, WriteVintOverflow, WriteSignedVintOverflow, WidthMismatch, OutputTooShort, ReadU64Overflow, ReadI64Overflow, ReadF64Mismatch}
+
+abbrev pub numberOf : ToolError → ℕ
+numberOf ReadVintOverflow = 1
+numberOf WriteVintOverflow = 2
+numberOf WriteSignedVintOverflow = 3
+numberOf WidthMismatch = 4
+numberOf OutputTooShort = 5
+numberOf ReadU64Overflow = 6
+numberOf ReadI64Overflow = 6
+numberOf ReadF64Mismatch = 7

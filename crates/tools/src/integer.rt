@@ -1,0 +1,54 @@
+// Payloads that are integers: `arr_to_u64` and `arr_to_i64` of tools.rs.
+
+ghost use mathlib.Core.Path.{_≡_};
+ghost use Rattle.tools.specs.Answers.{Gives};
+ghost use Rattle.tools.specs.Integer.{arrToU64, arrToI64, u64ToArr};
+use crate::bytes::be_number;
+use crate::bytes::put_be;
+use crate::errors::ToolError;
+use crate::twos::signed_of;
+use crate::vint::Written;
+
+pub enum ArrToU64 {
+    Value(u64),
+    Refused(ToolError),
+}
+
+pub enum ArrToI64 {
+    Value(i64),
+    Refused(ToolError),
+}
+
+pub fn arr_to_u64(arr: &[u8]) -> ArrToU64
+    ensures { λ r. ⌜ r ≡ arrToU64 (now (arr .entry)) ⌝ }
+{
+    let n = arr.len();
+    if 8 < n {
+        return ArrToU64::Refused(ToolError::ReadU64Overflow);
+    }
+    ArrToU64::Value(be_number(arr, n))
+}
+
+pub fn arr_to_i64(arr: &[u8]) -> ArrToI64
+    ensures { λ r. ⌜ r ≡ arrToI64 (now (arr .entry)) ⌝ }
+{
+    let n = arr.len();
+    if 8 < n {
+        return ArrToI64::Refused(ToolError::ReadI64Overflow);
+    }
+    if n == 0 {
+        return ArrToI64::Value(0);
+    }
+    ArrToI64::Value(signed_of(be_number(arr, n), 8 * n))
+}
+
+// A number as the C calls hand it back: eight bytes, big-endian, at the front of the lent ones.
+pub fn u64_to_arr(val: u64, out: &mut [u8]) -> Written
+    ensures { λ r. ⌜ Gives r (now (out .exit)) (u64ToArr val (now (out .entry))) ⌝ }
+{
+    if out.len() < 8 {
+        return Written::Refused(ToolError::OutputTooShort);
+    }
+    put_be(val, 8, out);
+    Written::Length(8)
+}

@@ -1,0 +1,10 @@
+// The number routines of ebml-iterable's tools.rs: vints, signed vints, integers and floats.
+// Every routine answers on every input; what each answer is stands in specs/.
+
+mod bytes;
+pub mod errors;
+pub mod float;
+pub mod integer;
+pub mod signed_vint;
+mod twos;
+pub mod vint;

@@ -1,0 +1,71 @@
+// Two's complement in a number of bits. Helpers of this crate alone.
+
+ghost use mathlib.Core.Path.{_≡_};
+ghost use mathlib.Core.Bool.{not};
+ghost use Prim.Native.Nat.{_^_, _≤_, _<_};
+ghost use lib.IntN.{pos, negsuc, natAbs};
+ghost use lib.Signed.{mag, nonNeg};
+ghost use Rattle.tools.specs.Twos.{signedOf, bitsOf};
+use crate::bytes::pow2;
+
+fn plus(x: u64) -> i64
+    requires { ⌜ x < 2 ^ 63 ⌝ }
+    ensures { λ r. ⌜ r ≡ pos x ⌝ }
+{
+    x as i64
+}
+
+// -1 - x
+fn minus(x: u64) -> i64
+    requires { ⌜ x < 2 ^ 63 ⌝ }
+    ensures { λ r. ⌜ r ≡ negsuc x ⌝ }
+{
+    -1 - (x as i64)
+}
+
+// The two's complement reading of a number of so many bits.
+pub fn signed_of(value: u64, bits: usize) -> i64
+    requires { ⌜ (1 ≤ bits) × (bits ≤ 64) × (value < 2 ^ bits) ⌝ }
+    ensures { λ r. ⌜ r ≡ signedOf bits value ⌝ }
+{
+    let half = pow2(bits - 1);
+    if value < half {
+        return plus(value);
+    }
+    minus(half - 1 - (value - half))
+}
+
+fn is_negative(val: i64) -> bool
+    ensures { λ r. ⌜ r ≡ not (nonNeg val) ⌝ }
+{
+    val < 0
+}
+
+// The number itself, or of a negative one how far below -1 it is.
+pub fn mag_of(val: i64) -> u64
+    ensures { λ r. ⌜ r ≡ mag val ⌝ }
+{
+    if val < 0 { (!val) as u64 } else { val as u64 }
+}
+
+pub fn abs_of(val: i64) -> u64
+    ensures { λ r. ⌜ r ≡ natAbs val ⌝ }
+{
+    if is_negative(val) {
+        mag_of(val) + 1
+    } else {
+        mag_of(val)
+    }
+}
+
+// The two's complement of val in so many bits.
+pub fn bits_of(val: i64, bits: usize) -> u64
+    requires { ⌜ (bits < 64) × (mag val < 2 ^ bits) ⌝ }
+    ensures { λ r. ⌜ r ≡ bitsOf bits val ⌝ }
+{
+    if is_negative(val) {
+        pow2(bits) - 1 - mag_of(val)
+    } else {
+        mag_of(val)
+    }
+}

@@ -1,0 +1,90 @@
+// Variable-size integers: `trait Vint`, `read_vint` and `is_vint` of tools.rs.
+
+ghost use mathlib.Core.Path.{_≡_};
+ghost use Prim.Native.Nat.{_≤_, _<_};
+ghost use Rattle.tools.specs.Answers.{Gives};
+ghost use Rattle.tools.specs.Vint.{vintLength, readVint, asVint, asVintWithLength, isVint};
+use crate::bytes::be_number;
+use crate::bytes::least_width;
+use crate::bytes::pow2;
+use crate::bytes::put_be;
+use crate::errors::ToolError;
+
+// What stands at the front of some bytes.
+pub enum ReadVint {
+    NeedMore,
+    Refused(ToolError),
+    Vint { value: u64, length: usize },
+}
+
+// What a writer answers: how many bytes it wrote.
+pub enum Written {
+    Length(usize),
+    Refused(ToolError),
+}
+
+// The length in bytes that a first byte announces.
+fn vint_length(first: u8) -> usize
+    requires { ⌜ 0 < first ⌝ }
+    ensures { λ r. ⌜ (r ≡ vintLength first) × (r ≤ 8) ⌝ }
+{
+    u8::leading_zeros(first) as usize + 1
+}
+
+pub fn read_vint(buffer: &[u8]) -> ReadVint
+    ensures { λ r. ⌜ r ≡ readVint (now (buffer .entry)) ⌝ }
+{
+    if buffer.len() == 0 {
+        return ReadVint::NeedMore;
+    }
+    let first = buffer[0];
+    if first == 0 {
+        return ReadVint::Refused(ToolError::ReadVintOverflow);
+    }
+    let length = vint_length(first);
+    if buffer.len() < length {
+        return ReadVint::NeedMore;
+    }
+    ReadVint::Vint {
+        value: be_number(buffer, length) - pow2(7 * length),
+        length,
+    }
+}
+
+pub fn as_vint(val: u64, out: &mut [u8]) -> Written
+    ensures { λ r. ⌜ Gives r (now (out .exit)) (asVint val (now (out .entry))) ⌝ }
+{
+    if pow2(56) <= val {
+        return Written::Refused(ToolError::WriteVintOverflow);
+    }
+    as_vint_with_length(val, least_width(val + 1, 0), out)
+}
+
+pub fn as_vint_with_length(val: u64, width: usize, out: &mut [u8]) -> Written
+    ensures { λ r. ⌜ Gives r (now (out .exit)) (asVintWithLength val width (now (out .entry))) ⌝ }
+{
+    if width == 0 {
+        return Written::Refused(ToolError::WidthMismatch);
+    }
+    if 8 < width {
+        return Written::Refused(ToolError::WidthMismatch);
+    }
+    let marker = pow2(7 * width);
+    if marker <= val {
+        return Written::Refused(ToolError::WriteVintOverflow);
+    }
+    if out.len() < width {
+        return Written::Refused(ToolError::OutputTooShort);
+    }
+    put_be(marker + val, width, out);
+    Written::Length(width)
+}
+
+pub fn is_vint(val: u64) -> bool
+    ensures { λ r. ⌜ r ≡ isVint val ⌝ }
+{
+    if val == 0 {
+        return false;
+    }
+    (63 - u64::leading_zeros(val)) % 7 == 0
+}
