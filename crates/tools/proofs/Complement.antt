@@ -41,6 +41,13 @@ upright z f l = toZ-ofZ w64 z f ∙ go z (sym (by-sign z) ∙ (rw (toZ-ofZ w64 z
     go (pos n) t = refl
     go (negsuc n) t = absurd (no-way t)
 
+-- what a callee says of a number's bits, said of the number
+pub mag-said : {z : ℤ} {m : ℕ} → SFits w64 z → m ≡ mag (toZ w64 (ofZ w64 z)) → m ≡ mag z
+mag-said {z} f e = rw (toZ-ofZ w64 z f) at e
+
+pub sign-said : {z : ℤ} {b : Bool} → SFits w64 z → b ≡ not (nonNeg (toZ w64 (ofZ w64 z))) → b ≡ not (nonNeg z)
+sign-said {z} f e = rw (toZ-ofZ w64 z f) at e
+
 pub abs-neg : (z : ℤ) → not (nonNeg z) ≡ true → natAbs z ≡ mag z + 1
 abs-neg (pos n) t = absurd (no-way (sym t))
 abs-neg (negsuc n) t = omega arith

@@ -3,10 +3,10 @@ use Prim.Native.Nat.{ℕ, _*_}
 use mathlib.Core.Bool.{cond}
 use mathlib.Core.List.{List, _++_}
 use lib.Dec.{ltb, eqb}
-use lib.IntN.{pos}
+use lib.IntN.{ℤ, pos}
 use lib.ListN.{length, drop}
 use Rattle.tools.specs.Bytes.{beNumber, beBytes}
-use Rattle.tools.specs.Twos.{signedOf}
+use Rattle.tools.specs.Twos.{signedOf, bitsOf}
 use Rattle.tools.specs.declared.errors.ToolError.the-variants.{OutputTooShort, ReadU64Overflow, ReadI64Overflow}
 use Rattle.tools.specs.declared.vint.Written.{Written}
 use Rattle.tools.specs.declared.vint.Written.the-variants as written
@@ -28,3 +28,6 @@ arrToI64 s =
 unfoldable pub u64ToArr : ℕ → List ℕ → Written × List ℕ
 u64ToArr v out =
     cond (ltb (length out) 8) (written.Refused OutputTooShort, out) (written.Length 8, beBytes 8 v ++ drop 8 out)
+
+abbrev pub i64ToArr : ℤ → List ℕ → Written × List ℕ
+i64ToArr z out = u64ToArr (bitsOf 64 z) out

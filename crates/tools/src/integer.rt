@@ -2,10 +2,11 @@
 
 ghost use mathlib.Core.Path.{_≡_};
 ghost use Rattle.tools.specs.Answers.{Gives};
-ghost use Rattle.tools.specs.Integer.{arrToU64, arrToI64, u64ToArr};
+ghost use Rattle.tools.specs.Integer.{arrToU64, arrToI64, u64ToArr, i64ToArr};
 use crate::bytes::be_number;
 use crate::bytes::put_be;
 use crate::errors::ToolError;
+use crate::twos::bits_of;
 use crate::twos::signed_of;
 use crate::vint::Written;
 
@@ -51,4 +52,11 @@ pub fn u64_to_arr(val: u64, out: &mut [u8]) -> Written
     }
     put_be(val, 8, out);
     Written::Length(8)
+}
+
+// The same of a signed number, in two's complement.
+pub fn i64_to_arr(val: i64, out: &mut [u8]) -> Written
+    ensures { λ r. ⌜ Gives r (now (out .exit)) (i64ToArr val (now (out .entry))) ⌝ }
+{
+    u64_to_arr(bits_of(val, 64), out)
 }

@@ -2,7 +2,7 @@
 
 ghost use mathlib.Core.Path.{_≡_};
 ghost use mathlib.Core.Bool.{not};
-ghost use Prim.Native.Nat.{_^_, _≤_, _<_};
+ghost use Prim.Native.Nat.{_-_, _^_, _≤_, _<_};
 ghost use lib.IntN.{pos, negsuc, natAbs};
 ghost use lib.Signed.{mag, nonNeg};
 ghost use Rattle.tools.specs.Twos.{signedOf, bitsOf};
@@ -58,13 +58,24 @@ pub fn abs_of(val: i64) -> u64
     }
 }
 
+// So many bits, all of them ones.
+fn ones(bits: usize) -> u64
+    requires { ⌜ bits ≤ 64 ⌝ }
+    ensures { λ r. ⌜ r ≡ 2 ^ bits - 1 ⌝ }
+{
+    if bits == 64 {
+        return 0xffff_ffff_ffff_ffff;
+    }
+    pow2(bits) - 1
+}
+
 // The two's complement of val in so many bits.
 pub fn bits_of(val: i64, bits: usize) -> u64
-    requires { ⌜ (bits < 64) × (mag val < 2 ^ bits) ⌝ }
+    requires { ⌜ (bits ≤ 64) × (mag val < 2 ^ bits) ⌝ }
     ensures { λ r. ⌜ r ≡ bitsOf bits val ⌝ }
 {
     if is_negative(val) {
-        pow2(bits) - 1 - mag_of(val)
+        ones(bits) - mag_of(val)
     } else {
         mag_of(val)
     }

@@ -1,0 +1,41 @@
+-- Laws of the C calls' answers. Assumes nothing.
+use Prim.Native.Nat.{ℕ, _≤_, _<_}
+use mathlib.Core.Path.{_≡_, refl, sym, ap, _∙_}
+use mathlib.Core.List.{List}
+use native.Mathlib.Omega.{arith}
+use native.Mathlib.Decide.{decLe}
+use borrow.Author.Tests.{lt-ltb, le-ltb}
+use lib.ListN.{length}
+use Rattle.tools.specs.Answers.{Gives}
+use Rattle.tools.specs.Integer.{u64ToArr}
+use Rattle.tools.specs.Refusals.{numberOf}
+use Rattle.tools.specs.declared.errors.ToolError.{ToolError}
+use Rattle.tools.specs.declared.errors.ToolError.the-variants.{ReadVintOverflow, WriteVintOverflow, WriteSignedVintOverflow, WidthMismatch, OutputTooShort, ReadU64Overflow, ReadI64Overflow, ReadF64Mismatch}
+use Rattle.tools.specs.declared.vint.Written.{Written}
+use Rattle.ebml.specs.Numbers.{codeOf, resultOf, valueOut, writtenOut}
+
+pub number-small : (e : ToolError) → numberOf e ≤ 7
+number-small ReadVintOverflow = omega arith
+number-small WriteVintOverflow = omega arith
+number-small WriteSignedVintOverflow = omega arith
+number-small WidthMismatch = omega arith
+number-small OutputTooShort = omega arith
+number-small ReadU64Overflow = omega arith
+number-small ReadI64Overflow = omega arith
+number-small ReadF64Mismatch = omega arith
+
+-- the number of what a writer answered, and the bytes that it left
+pub written : {w : Written} {r : ℕ} {o : List ℕ} {p : Written × List ℕ} → r ≡ codeOf w → Gives w o p → Gives r o (writtenOut p)
+written e g = record { answer = e ∙ ap codeOf (g .answer); bytes = g .bytes }
+
+-- a value that was handed to the lent bytes
+pub handed : (result v : ℕ) (out : List ℕ) {w : Written} {r : ℕ} {o : List ℕ}
+    → r ≡ resultOf result w → Gives w o (u64ToArr v out) → Gives r o (valueOut result v out)
+unfolding u64ToArr
+handed result v out {w} {r} {o} e g = go (decLe 8 (length out))
+  where
+    go : Dec (8 ≤ length out) → Gives r o (valueOut result v out)
+    go (yes h) = rw (le-ltb _ _ h) (record { answer = e ∙ ap (resultOf result) (rw (le-ltb _ _ h) at (g .answer)); bytes = rw (le-ltb _ _ h) at (g .bytes) })
+    go (no f) =
+        let h : length out < 8 = omega arith in
+        rw (lt-ltb _ _ h) (record { answer = e ∙ ap (resultOf result) (rw (lt-ltb _ _ h) at (g .answer)); bytes = rw (lt-ltb _ _ h) at (g .bytes) })

@@ -1,0 +1,4 @@
+// The calls of the library for a program in C, on numbers and lent bytes; include/ebml.h declares them.
+
+mod answers;
+pub mod numbers;
