@@ -6,3 +6,7 @@ pub mod Widths
 pub mod Rfc8794
 pub mod Complement
 pub mod Widening
+pub mod Signed
+pub mod Floats
+pub mod IsVint
+pub mod Unique

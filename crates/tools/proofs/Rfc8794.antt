@@ -3,22 +3,26 @@
 use Prim.Native.Nat.{ℕ, zero, suc, _+_, _-_, _*_, _/_, _%_, _^_, _≤_, _<_}
 use mathlib.Core.Path.{_≡_, refl, sym, ap, _∙_, subst}
 use mathlib.Core.Bool.{Bool, true, false}
-use mathlib.Core.List.{List, [], _∷_, _++_}
+use mathlib.Core.List.{List, [], _∷_, _++_, append-nil}
+use mathlib.Core.Logic.{⊎-elim}
 use native.Mathlib.Omega.{arith}
 use native.Mathlib.Decide.{decLe}
-use native.Mathlib.Nat.{lt-of-lt-of-le, add-sub-cancel-left, mod-eq-of-lt, le-div-iff-mul-le, pow-suc}
+use native.Mathlib.Nat.{eq-or-lt-of-le, lt-of-lt-of-le, add-sub-cancel-left, mod-eq-of-lt, le-div-iff-mul-le, pow-suc}
 use native.Mathlib.Numerals.{add-one}
+use borrow.Author.Tests.{ne-eqb, ltb-true, ltb-false}
 use lib.Count.{leadingZeros, leading-unique, leading-of-zero}
-use lib.ListN.{length, getD, take, drop, length-append}
+use lib.Dec.{ltb}
+use lib.ListN.{length, getD, take, drop, length-append, List·getD-append}
 use lib.Pow.{pow-add, pow-mono, pow-pos, shr-lt}
-use lib.Seq.{take-at, length-take-le}
+use lib.Seq.{take-at, length-take-le, take-append-le, getD-take}
 use Rattle.tools.specs.Bytes.{Octets, beNumber, beBytes}
-use Rattle.tools.specs.Vint.{IsVint, vintLength, vintValue, readVint, vintBytes, vintWidth}
+use Rattle.tools.specs.Vint.{IsVint, vintLength, vintValue, allOnes, readVint, vintBytes, leastFrom, vintWidth}
 use Rattle.tools.specs.declared.errors.ToolError.the-variants.{ReadVintOverflow}
 use Rattle.tools.specs.declared.vint.ReadVint.{ReadVint}
 use Rattle.tools.specs.declared.vint.ReadVint.the-variants.{NeedMore, Refused, Vint}
 use Rattle.tools.proofs.BigEndian.{length-beBytes, octets-beBytes, octets-take, be-bytes, bytes-be}
 use Rattle.tools.proofs.Cases.{read-none, read-zero, read-short, read-whole}
+use Rattle.tools.proofs.Least.{Least, least}
 use Rattle.tools.proofs.Marker.{length-le-8, Marked, marked}
 
 -- ---- what is read is a VINT
@@ -139,3 +143,101 @@ written-only L v octets i =
 pub read-complete : (L v : ℕ) (octets rest : List ℕ) → IsVint L v octets → readVint (octets ++ rest) ≡ Vint v L
 read-complete L v octets rest i =
     ap (λ (o : List ℕ). readVint (o ++ rest)) (written-only L v octets i) ∙ round-trip L v rest (i .at-least-1) (i .at-most-8) (i .below)
+
+-- ---- need more, and what is appended
+
+-- an answer other than need-more stays when bytes are appended
+pub read-local : (s t : List ℕ) → (readVint s ≡ NeedMore → ⊥) → readVint (s ++ t) ≡ readVint s
+read-local s t some = none-or (decLe 1 (length s))
+  where
+    whole-or : (length s ≡ 0 → ⊥) → (getD s 0 0 ≡ 0 → ⊥) → Dec (vintLength (getD s 0 0) ≤ length s) → readVint (s ++ t) ≡ readVint s
+    whole-or n z (yes h) =
+        let L = vintLength (getD s 0 0) in
+        let first : getD (s ++ t) 0 0 ≡ getD s 0 0 = List·getD-append s t 0 0 (omega arith) in
+        let more : length (s ++ t) ≡ length s + length t = length-append s t in
+        let e : vintLength (getD (s ++ t) 0 0) ≡ L = ap vintLength first in
+        read-whole (s ++ t) (λ x. omega arith) (λ x. z (sym first ∙ x)) (rw e (omega arith))
+        ∙ rw (e, take-append-le L s t h) (sym (read-whole s n z h))
+    whole-or n z (no f) = let h : length s < vintLength (getD s 0 0) = omega arith in absurd (some (read-short s n z h))
+
+    zero-or : (length s ≡ 0 → ⊥) → Dec (1 ≤ getD s 0 0) → readVint (s ++ t) ≡ readVint s
+    zero-or n (yes h) = whole-or n (λ e. omega arith) (decLe (vintLength (getD s 0 0)) (length s))
+    zero-or n (no f) =
+        let z : getD s 0 0 ≡ 0 = omega arith in
+        let first : getD (s ++ t) 0 0 ≡ getD s 0 0 = List·getD-append s t 0 0 (omega arith) in
+        let more : length (s ++ t) ≡ length s + length t = length-append s t in
+        read-zero (s ++ t) (λ x. omega arith) (first ∙ z) ∙ sym (read-zero s n z)
+
+    none-or : Dec (1 ≤ length s) → readVint (s ++ t) ≡ readVint s
+    none-or (yes h) = zero-or (λ e. omega arith) (decLe 1 (getD s 0 0))
+    none-or (no f) = let z : length s ≡ 0 = omega arith in absurd (some (read-none s z))
+
+-- a proper part of the octets of a VINT needs more
+pub read-part : (L v : ℕ) (octets : List ℕ) (k : ℕ) → IsVint L v octets → k < L → readVint (take k octets) ≡ NeedMore
+read-part L v octets zero i h = read-none _ refl
+read-part L v octets (suc k) i h =
+    let s = take (suc k) octets in
+    let len : length s ≡ suc k = length-take-le (suc k) octets (omega (arith, i .count)) in
+    let first : getD s 0 0 ≡ getD octets 0 0 = getD-take (suc k) octets 0 0 (omega arith) in
+    let w : vintLength (getD octets 0 0) ≡ L = width-of i in
+    let nz : getD octets 0 0 ≡ 0 → ⊥ = not-zero i in
+    read-short s (λ e. omega arith) (λ e. nz (sym first ∙ e)) (rw (first, w) (omega arith))
+  where
+    whole : IsVint L v octets → readVint octets ≡ Vint v L
+    whole i = ap readVint (sym (append-nil octets)) ∙ read-complete L v octets [] i
+
+    not-zero : IsVint L v octets → getD octets 0 0 ≡ 0 → ⊥
+    not-zero i e =
+        let r = read-zero octets (λ x. omega (arith, i .count, i .at-least-1)) e in
+        let q = whole i in
+        let no : _≡_ {A = ℕ} 0 1 = cc in
+        never no
+
+    width-of : IsVint L v octets → vintLength (getD octets 0 0) ≡ L
+    width-of i = go (decLe (vintLength (getD octets 0 0)) (length octets))
+      where
+        go : Dec (vintLength (getD octets 0 0) ≤ length octets) → vintLength (getD octets 0 0) ≡ L
+        go (yes h) =
+            let r = read-whole octets (λ x. omega (arith, i .count, i .at-least-1)) (not-zero i) h in
+            let q = whole i in
+            cc
+        go (no f) =
+            let h : length octets < vintLength (getD octets 0 0) = omega arith in
+            let r = read-short octets (λ x. omega (arith, i .count, i .at-least-1)) (not-zero i) h in
+            let q = whole i in
+            let no : _≡_ {A = ℕ} 0 1 = cc in
+            never no
+
+-- ---- what `as_vint` writes
+
+chosen : (v : ℕ) → Least (λ L. ltb v (2 ^ (7 * L) - 1)) 1 8 (vintWidth v)
+chosen v = least (λ L. ltb v (2 ^ (7 * L) - 1)) 7 1
+
+-- a width below 8 holds the value below its all-ones form
+chosen-below : (v : ℕ) → vintWidth v < 8 → v < 2 ^ (7 * vintWidth v) - 1
+chosen-below v h = ltb-true _ _ (chosen v .passes h)
+
+pub least-below : (v : ℕ) → v < 2 ^ 56 → v < 2 ^ (7 * vintWidth v)
+least-below v h = ⊎-elim (λ e. rw e h) (λ x. omega (arith, chosen-below v x)) (eq-or-lt-of-le (chosen v .hi))
+
+-- so what is written is a VINT of the value, and is read back
+pub least-is : (v : ℕ) → v < 2 ^ 56 → IsVint (vintWidth v) v (vintBytes (vintWidth v) v)
+least-is v h = written-is (vintWidth v) v (chosen v .lo) (chosen v .hi) (least-below v h)
+
+pub least-back : (v : ℕ) (rest : List ℕ) → v < 2 ^ 56 → readVint (vintBytes (vintWidth v) v ++ rest) ≡ Vint v (vintWidth v)
+least-back v rest h = read-complete (vintWidth v) v (vintBytes (vintWidth v) v) rest (least-is v h)
+
+-- no smaller width holds the value below its all-ones form
+pub least-width : (v L : ℕ) → 1 ≤ L → L < vintWidth v → 2 ^ (7 * L) - 1 ≤ v
+least-width v L p h = ltb-false _ _ (chosen v .none L p h)
+
+-- what is written is not the reserved form, all data bits ones, but for 2 ^ 56 - 1
+pub least-known : (v : ℕ) → v < 2 ^ 56 - 1 → allOnes (vintWidth v) v ≡ false
+least-known v h = ne-eqb _ _ (λ e. ⊎-elim (top e) (λ x. omega (arith, chosen-below v x)) (eq-or-lt-of-le (chosen v .hi)))
+  where
+    top : v ≡ 2 ^ (7 * vintWidth v) - 1 → vintWidth v ≡ 8 → ⊥
+    top e x = let e' : v ≡ 2 ^ 56 - 1 = e ∙ ap (λ (L : ℕ). 2 ^ (7 * L) - 1) x in omega arith
+
+pub least-reserved : allOnes (vintWidth (2 ^ 56 - 1)) (2 ^ 56 - 1) ≡ true
+unfolding leastFrom
+least-reserved = refl

@@ -1,0 +1,66 @@
+-- No second answer meets the contract of a C call: the result number and every lent byte are fixed. Assumes nothing.
+use Prim.Native.Nat.{ℕ}
+use mathlib.Core.Path.{_≡_}
+use borrow.Fn.Kinds.{Dens}
+use contract.Lifetimes.{Lfts}
+use denote.Ref.{now}
+use Rattle.tools.proofs.Unique.{same, gives-same}
+use Rattle.ebml.proofs.numbers.ebml_read_vint.Reads as ebml-read-vint
+use Rattle.ebml.proofs.numbers.ebml_read_vint.Kinds as ebml-read-vint-kinds
+use Rattle.ebml.proofs.numbers.ebml_read_signed_vint.Reads as ebml-read-signed-vint
+use Rattle.ebml.proofs.numbers.ebml_read_signed_vint.Kinds as ebml-read-signed-vint-kinds
+use Rattle.ebml.proofs.numbers.ebml_as_vint.Reads as ebml-as-vint
+use Rattle.ebml.proofs.numbers.ebml_as_vint.Kinds as ebml-as-vint-kinds
+use Rattle.ebml.proofs.numbers.ebml_as_vint_with_length.Reads as ebml-as-vint-with-length
+use Rattle.ebml.proofs.numbers.ebml_as_vint_with_length.Kinds as ebml-as-vint-with-length-kinds
+use Rattle.ebml.proofs.numbers.ebml_as_signed_vint.Reads as ebml-as-signed-vint
+use Rattle.ebml.proofs.numbers.ebml_as_signed_vint.Kinds as ebml-as-signed-vint-kinds
+use Rattle.ebml.proofs.numbers.ebml_as_signed_vint_with_length.Reads as ebml-as-signed-vint-with-length
+use Rattle.ebml.proofs.numbers.ebml_as_signed_vint_with_length.Kinds as ebml-as-signed-vint-with-length-kinds
+use Rattle.ebml.proofs.numbers.ebml_is_vint.Reads as ebml-is-vint
+use Rattle.ebml.proofs.numbers.ebml_is_vint.Kinds as ebml-is-vint-kinds
+use Rattle.ebml.proofs.numbers.ebml_arr_to_u64.Reads as ebml-arr-to-u64
+use Rattle.ebml.proofs.numbers.ebml_arr_to_u64.Kinds as ebml-arr-to-u64-kinds
+use Rattle.ebml.proofs.numbers.ebml_arr_to_i64.Reads as ebml-arr-to-i64
+use Rattle.ebml.proofs.numbers.ebml_arr_to_i64.Kinds as ebml-arr-to-i64-kinds
+use Rattle.ebml.proofs.numbers.ebml_arr_to_f64.Reads as ebml-arr-to-f64
+use Rattle.ebml.proofs.numbers.ebml_arr_to_f64.Kinds as ebml-arr-to-f64-kinds
+
+pub ebml-read-vint-one : (κs : Lfts 2) (a : Dens κs ebml-read-vint-kinds.ps) (r r' : ℕ) (e e' : _) → ebml-read-vint.Post κs a r e → ebml-read-vint.Post κs a r' e'
+    → (r ≡ r') × (now (e .1 .0) ≡ now (e' .1 .0))
+ebml-read-vint-one κs a r r' e e' p q = gives-same p q
+
+pub ebml-read-signed-vint-one : (κs : Lfts 2) (a : Dens κs ebml-read-signed-vint-kinds.ps) (r r' : ℕ) (e e' : _) → ebml-read-signed-vint.Post κs a r e → ebml-read-signed-vint.Post κs a r' e'
+    → (r ≡ r') × (now (e .1 .0) ≡ now (e' .1 .0))
+ebml-read-signed-vint-one κs a r r' e e' p q = gives-same p q
+
+pub ebml-as-vint-one : (κs : Lfts 1) (a : Dens κs ebml-as-vint-kinds.ps) (r r' : ℕ) (e e' : _) → ebml-as-vint.Post κs a r e → ebml-as-vint.Post κs a r' e'
+    → (r ≡ r') × (now (e .1 .0) ≡ now (e' .1 .0))
+ebml-as-vint-one κs a r r' e e' p q = gives-same p q
+
+pub ebml-as-vint-with-length-one : (κs : Lfts 1) (a : Dens κs ebml-as-vint-with-length-kinds.ps) (r r' : ℕ) (e e' : _) → ebml-as-vint-with-length.Post κs a r e → ebml-as-vint-with-length.Post κs a r' e'
+    → (r ≡ r') × (now (e .1 .1 .0) ≡ now (e' .1 .1 .0))
+ebml-as-vint-with-length-one κs a r r' e e' p q = gives-same p q
+
+pub ebml-as-signed-vint-one : (κs : Lfts 1) (a : Dens κs ebml-as-signed-vint-kinds.ps) (r r' : ℕ) (e e' : _) → ebml-as-signed-vint.Post κs a r e → ebml-as-signed-vint.Post κs a r' e'
+    → (r ≡ r') × (now (e .1 .0) ≡ now (e' .1 .0))
+ebml-as-signed-vint-one κs a r r' e e' p q = gives-same p q
+
+pub ebml-as-signed-vint-with-length-one : (κs : Lfts 1) (a : Dens κs ebml-as-signed-vint-with-length-kinds.ps) (r r' : ℕ) (e e' : _) → ebml-as-signed-vint-with-length.Post κs a r e → ebml-as-signed-vint-with-length.Post κs a r' e'
+    → (r ≡ r') × (now (e .1 .1 .0) ≡ now (e' .1 .1 .0))
+ebml-as-signed-vint-with-length-one κs a r r' e e' p q = gives-same p q
+
+pub ebml-is-vint-one : (κs : Lfts 0) (a : Dens κs ebml-is-vint-kinds.ps) (r r' : ℕ) (e : _) → ebml-is-vint.Post κs a r e → ebml-is-vint.Post κs a r' e → r ≡ r'
+ebml-is-vint-one κs a r r' e p q = same p q
+
+pub ebml-arr-to-u64-one : (κs : Lfts 2) (a : Dens κs ebml-arr-to-u64-kinds.ps) (r r' : ℕ) (e e' : _) → ebml-arr-to-u64.Post κs a r e → ebml-arr-to-u64.Post κs a r' e'
+    → (r ≡ r') × (now (e .1 .0) ≡ now (e' .1 .0))
+ebml-arr-to-u64-one κs a r r' e e' p q = gives-same p q
+
+pub ebml-arr-to-i64-one : (κs : Lfts 2) (a : Dens κs ebml-arr-to-i64-kinds.ps) (r r' : ℕ) (e e' : _) → ebml-arr-to-i64.Post κs a r e → ebml-arr-to-i64.Post κs a r' e'
+    → (r ≡ r') × (now (e .1 .0) ≡ now (e' .1 .0))
+ebml-arr-to-i64-one κs a r r' e e' p q = gives-same p q
+
+pub ebml-arr-to-f64-one : (κs : Lfts 2) (a : Dens κs ebml-arr-to-f64-kinds.ps) (r r' : ℕ) (e e' : _) → ebml-arr-to-f64.Post κs a r e → ebml-arr-to-f64.Post κs a r' e'
+    → (r ≡ r') × (now (e .1 .0) ≡ now (e' .1 .0))
+ebml-arr-to-f64-one κs a r r' e e' p q = gives-same p q

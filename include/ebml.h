@@ -1,0 +1,86 @@
+/* ebml.h: the calls of libebml.a, a decoder for EBML (RFC 8794) that is proved to meet its definitions.
+ *
+ * The archive is built by `rt staticlib ebml` and links into a program for x86-64 Linux. Every call here answers on every input and keeps
+ * nothing between calls: no heap, no global state, no lock.
+ *
+ * WHAT A CALLER OWES
+ *  - A lent buffer is a pointer and then its length in bytes. The pointer is not null and points to that many bytes, at most
+ *    PTRDIFF_MAX, which the call may read and, if it is not const, write.
+ *  - A length of 0 is allowed, and then nothing is read or written through the pointer. It is still not null: lend the address of any object.
+ *  - A buffer that a call writes overlaps no other buffer of the same call, and no other thread uses it during the call.
+ *
+ * WHAT A CALL GIVES BACK: one result number.
+ *  - EBML_REFUSED + n is refusal n, listed below. A refusal writes nothing.
+ *  - Anything smaller is a success, or "need more"; each call says which.
+ *  - A value goes big-endian into the first EBML_VALUE bytes of `out`, in two's complement if it is signed. No byte of `out` past the value, or
+ *    past the vint that was written, is changed.
+ */
+#ifndef EBML_H
+#define EBML_H
+
+#include <stddef.h>
+#include <stdint.h>
+
+#ifdef __cplusplus
+extern "C" {
+#endif
+
+/* The bytes of a value in `out`. */
+#define EBML_VALUE 8
+
+/* A result of at least this is a refusal, and its number is what it is more. */
+#define EBML_REFUSED 256
+
+enum ebml_refusal {
+    EBML_READ_VINT_OVERFLOW = 1,         /* a vint's first byte is 0 */
+    EBML_WRITE_VINT_OVERFLOW = 2,        /* the value is too large for a vint, or for one of the width asked */
+    EBML_WRITE_SIGNED_VINT_OVERFLOW = 3, /* the same of a signed value, of either sign */
+    EBML_WIDTH_MISMATCH = 4,             /* the width is not 1 to 8; this one comes before all others */
+    EBML_OUTPUT_TOO_SHORT = 5,           /* `out` is too short; this one comes after need-more and all others */
+    EBML_NUMBER_TOO_LONG = 6,            /* an integer of over 8 bytes */
+    EBML_FLOAT_MISMATCH = 7              /* a float that is not of 4 or 8 bytes */
+};
+
+/* Reads the vint at the front of `buffer`: its value into `out`, its length (1 to 8) as the result.
+ * 0: need more; `buffer` is empty, or shorter than the vint that begins there. A longer form than needed is read (40 01 is 1).
+ * Refusals: 1, 5 (fewer than 8 bytes of `out`). */
+uint64_t ebml_read_vint(const uint8_t *buffer, size_t buffer_len, uint8_t *out, size_t out_len);
+
+/* The same of a signed vint: its 7 bits to a byte are two's complement. */
+uint64_t ebml_read_signed_vint(const uint8_t *buffer, size_t buffer_len, uint8_t *out, size_t out_len);
+
+/* Writes `val` as a vint at the front of `out`, as short as it can be without all data bits set (126 is FE, 127 is 40 7F); the result is its
+ * length. 2^56 - 1 alone comes out with all data bits set, which reads back as an unknown size.
+ * Refusals: 2 (2^56 and above), 5 (`out` is shorter than the vint). */
+uint64_t ebml_as_vint(uint64_t val, uint8_t *out, size_t out_len);
+
+/* Writes `val` as a vint of `width` bytes, 1 to 8; the result is `width`. 127 in one byte is FF.
+ * Refusals: 4, 2 (2^(7 width) and above), 5. */
+uint64_t ebml_as_vint_with_length(uint64_t val, size_t width, uint8_t *out, size_t out_len);
+
+/* Writes `val` as a signed vint, as short as it can be; the result is its length. -64 is C0.
+ * Refusals: 3 (-2^55 and below, 2^55 and above), 5. */
+uint64_t ebml_as_signed_vint(int64_t val, uint8_t *out, size_t out_len);
+
+/* Writes `val` as a signed vint of `width` bytes; the result is `width`.
+ * Refusals: 4, 3 (-2^(7 width - 1) and below, 2^(7 width - 1) and above: -64 in one byte is refused, -63 is C1), 5. */
+uint64_t ebml_as_signed_vint_with_length(int64_t val, size_t width, uint8_t *out, size_t out_len);
+
+/* 1 where `val` is not 0 and the number of its highest set bit divides by 7, as that of an ID with its marker does; else 0. */
+uint64_t ebml_is_vint(uint64_t val);
+
+/* The unsigned integer of 0 to 8 big-endian bytes into `out`; the result is 8. No byte at all is 0. Refusals: 6, 5. */
+uint64_t ebml_arr_to_u64(const uint8_t *arr, size_t arr_len, uint8_t *out, size_t out_len);
+
+/* The signed integer of 0 to 8 big-endian bytes, two's complement in as many bits as there are; the result is 8. Refusals: 6, 5. */
+uint64_t ebml_arr_to_i64(const uint8_t *arr, size_t arr_len, uint8_t *out, size_t out_len);
+
+/* The float of 4 or 8 big-endian bytes, as the 64 bits of a double; the result is 8. Four bytes are widened exactly. A NaN keeps sign and
+ * fraction and becomes quiet. Refusals: 7, 5. */
+uint64_t ebml_arr_to_f64(const uint8_t *arr, size_t arr_len, uint8_t *out, size_t out_len);
+
+#ifdef __cplusplus
+}
+#endif
+
+#endif

@@ -1,0 +1,2 @@
+/* The size type that ebml.h names, for a compiler that comes without its headers. */
+typedef __SIZE_TYPE__ size_t;
