@@ -1,0 +1,4 @@
+//! What the comparison and the sample share.
+
+pub mod calls;
+pub mod listed;

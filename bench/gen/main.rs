@@ -1,0 +1,22 @@
+//! Usage: gen FOLDER [SEED]
+//! Writes the bench's scripts of calls into FOLDER. The same seed gives the same scripts.
+
+mod lines;
+mod numbers;
+mod prng;
+mod script;
+
+use std::path::PathBuf;
+use std::{env, io};
+
+const SEED: u64 = 8794;
+
+fn main() -> io::Result<()> {
+    let mut arguments = env::args().skip(1);
+    let folder = PathBuf::from(arguments.next().expect("usage: gen FOLDER [SEED]"));
+    let seed = arguments
+        .next()
+        .map_or(SEED, |seed| seed.parse().expect("SEED is a number"));
+    lines::generate(&folder)?;
+    numbers::generate(&folder, seed)
+}

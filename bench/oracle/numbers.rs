@@ -1,0 +1,197 @@
+//! The number calls: tools.rs and, on top of its answers, the gateway's C form.
+
+use crate::fields::{bytes, hex, signed, unsigned};
+use ebml_iterable::errors::tool::ToolError;
+use ebml_iterable::tools::{self, SignedVint, Vint};
+use std::panic::{catch_unwind, UnwindSafe};
+
+pub enum Reply {
+    Vint(Number, usize),
+    NeedMore,
+    Written(Vec<u8>),
+    Flag(bool),
+    Value(Number),
+    Float(f64),
+    Refusal(u64),
+    Panic,
+}
+
+#[derive(Clone, Copy)]
+pub enum Number {
+    Unsigned(u64),
+    Signed(i64),
+}
+
+impl Number {
+    fn text(self) -> String {
+        match self {
+            Number::Unsigned(value) => value.to_string(),
+            Number::Signed(value) => value.to_string(),
+        }
+    }
+
+    fn to_bytes(self) -> [u8; 8] {
+        match self {
+            Number::Unsigned(value) => value.to_be_bytes(),
+            Number::Signed(value) => value.to_be_bytes(),
+        }
+    }
+}
+
+/// The answer line of a number call, or nothing if the fields are no such call.
+pub fn answer(fields: &[&str]) -> Option<String> {
+    match fields {
+        ["g", call @ .., lent] => gateway(reply(call)?, bytes(lent)?),
+        ["afb", payload] => Some(text(read_float(&bytes(payload)?), bits)),
+        _ => Some(text(reply(fields)?, bits_or_nan)),
+    }
+}
+
+fn reply(fields: &[&str]) -> Option<Reply> {
+    Some(match fields {
+        ["rv", input] => read_vint(&bytes(input)?),
+        ["rs", input] => read_signed_vint(&bytes(input)?),
+        ["wv", value] => as_vint(unsigned(value)?),
+        ["wvw", value, width] => as_vint_with_length(unsigned(value)?, unsigned(width)?),
+        ["ws", value] => as_signed_vint(signed(value)?),
+        ["wsw", value, width] => as_signed_vint_with_length(signed(value)?, unsigned(width)?),
+        ["iv", value] => is_vint(unsigned(value)?),
+        ["au", payload] => read_unsigned(&bytes(payload)?),
+        ["ai", payload] => read_signed(&bytes(payload)?),
+        ["af", payload] => read_float(&bytes(payload)?),
+        _ => return None,
+    })
+}
+
+fn read_vint(input: &[u8]) -> Reply {
+    guarded(|| {
+        Ok(match tools::read_vint(input)? {
+            Some((value, length)) => Reply::Vint(Number::Unsigned(value), length),
+            None => Reply::NeedMore,
+        })
+    })
+}
+
+fn read_signed_vint(input: &[u8]) -> Reply {
+    guarded(|| {
+        Ok(match tools::read_signed_vint(input)? {
+            Some((value, length)) => Reply::Vint(Number::Signed(value), length),
+            None => Reply::NeedMore,
+        })
+    })
+}
+
+fn as_vint(value: u64) -> Reply {
+    guarded(|| Ok(Reply::Written(value.as_vint()?)))
+}
+
+fn as_vint_with_length(value: u64, width: u64) -> Reply {
+    guarded(|| {
+        Ok(Reply::Written(match width {
+            1 => value.as_vint_with_length::<1>()?.to_vec(),
+            2 => value.as_vint_with_length::<2>()?.to_vec(),
+            3 => value.as_vint_with_length::<3>()?.to_vec(),
+            4 => value.as_vint_with_length::<4>()?.to_vec(),
+            5 => value.as_vint_with_length::<5>()?.to_vec(),
+            6 => value.as_vint_with_length::<6>()?.to_vec(),
+            7 => value.as_vint_with_length::<7>()?.to_vec(),
+            8 => value.as_vint_with_length::<8>()?.to_vec(),
+            _ => return Ok(Reply::Refusal(4)),
+        }))
+    })
+}
+
+fn as_signed_vint(value: i64) -> Reply {
+    guarded(|| Ok(Reply::Written(value.as_signed_vint()?)))
+}
+
+fn as_signed_vint_with_length(value: i64, width: u64) -> Reply {
+    guarded(|| match width {
+        1..=8 => Ok(Reply::Written(value.as_signed_vint_with_length(width as usize)?)),
+        _ => Ok(Reply::Refusal(4)),
+    })
+}
+
+fn is_vint(value: u64) -> Reply {
+    guarded(|| Ok(Reply::Flag(tools::is_vint(value))))
+}
+
+fn read_unsigned(payload: &[u8]) -> Reply {
+    guarded(|| Ok(Reply::Value(Number::Unsigned(tools::arr_to_u64(payload)?))))
+}
+
+fn read_signed(payload: &[u8]) -> Reply {
+    guarded(|| Ok(Reply::Value(Number::Signed(tools::arr_to_i64(payload)?))))
+}
+
+fn read_float(payload: &[u8]) -> Reply {
+    guarded(|| Ok(Reply::Float(tools::arr_to_f64(payload)?)))
+}
+
+fn guarded(call: impl FnOnce() -> Result<Reply, ToolError> + UnwindSafe) -> Reply {
+    match catch_unwind(call) {
+        Ok(Ok(reply)) => reply,
+        Ok(Err(error)) => Reply::Refusal(refusal(&error)),
+        Err(_) => Reply::Panic,
+    }
+}
+
+fn refusal(error: &ToolError) -> u64 {
+    match error {
+        ToolError::ReadVintOverflow => 1,
+        ToolError::WriteVintOverflow(_) => 2,
+        ToolError::WriteSignedVintOverflow(_) => 3,
+        ToolError::ReadU64Overflow(_) | ToolError::ReadI64Overflow(_) => 6,
+        ToolError::ReadF64Mismatch(_) => 7,
+        ToolError::FromUtf8Error(..) => 20,
+    }
+}
+
+fn text(reply: Reply, float: impl Fn(f64) -> String) -> String {
+    match reply {
+        Reply::Vint(value, length) => format!("V {} {length}", value.text()),
+        Reply::NeedMore => "N".to_string(),
+        Reply::Written(vint) => format!("B {}", hex(&vint)),
+        Reply::Flag(flag) => u8::from(flag).to_string(),
+        Reply::Value(value) => format!("V {}", value.text()),
+        Reply::Float(value) => format!("D {}", float(value)),
+        Reply::Refusal(number) => format!("X {number}"),
+        Reply::Panic => "PANIC".to_string(),
+    }
+}
+
+pub fn bits_or_nan(value: f64) -> String {
+    if value.is_nan() {
+        "NaN".to_string()
+    } else {
+        bits(value)
+    }
+}
+
+fn bits(value: f64) -> String {
+    hex(&value.to_bits().to_be_bytes())
+}
+
+fn gateway(reply: Reply, mut lent: Vec<u8>) -> Option<String> {
+    let result = match reply {
+        Reply::Vint(value, length) => write(&mut lent, &value.to_bytes(), length as u64),
+        Reply::NeedMore => 0,
+        Reply::Written(vint) => write(&mut lent, &vint, vint.len() as u64),
+        Reply::Flag(flag) => u64::from(flag),
+        Reply::Value(value) => write(&mut lent, &value.to_bytes(), 8),
+        Reply::Float(value) => write(&mut lent, &value.to_bits().to_be_bytes(), 8),
+        Reply::Refusal(number) => 256 + number,
+        Reply::Panic => return Some("PANIC".to_string()),
+    };
+    Some(format!("{result} {}", hex(&lent)))
+}
+
+fn write(lent: &mut [u8], output: &[u8], result: u64) -> u64 {
+    match lent.get_mut(..output.len()) {
+        Some(place) => {
+            place.copy_from_slice(output);
+            result
+        }
+        None => 256 + 5,
+    }
+}
