@@ -1,4 +1,5 @@
 //! What the comparison and the sample share.
 
 pub mod calls;
+mod check;
 pub mod listed;

@@ -1,37 +1,72 @@
 //! The listed differences: where the Rust's answer is not the one that ours must give.
 
+use crate::check::Table;
 use oracle::fields::{bytes, hex};
 
 pub const SIGNED_VINT_PANIC: &str = "signed vint of 8 bytes, not negative: the Rust panics";
 pub const NAN_BITS: &str = "NaN with other bits";
+pub const CHECK: &str = "the table check: the Rust has none, document 01 decides";
+pub const TABLE_SHAPE: &str = "table of bad shape: the Rust has no such table";
 
 pub enum Expected {
     Same,
     Listed { kind: &'static str, ours: String },
 }
 
-/// What ours must answer to a call that the Rust answered so.
-pub fn expected(call: &str, rust: &str) -> Expected {
-    let fields: Vec<&str> = call.split(' ').collect();
-    let listed = match fields[..] {
-        ["rs", input] if rust == "PANIC" => listed_panic(input, |value| format!("V {value} 8")),
-        ["g", "rs", input, lent] if rust == "PANIC" => listed_panic(input, |value| written(value, lent)),
-        ["afb", payload] => rust
-            .strip_prefix("D ")
-            .and_then(|bits| listed_nan(payload, bits, |bits| format!("D {bits:016X}"))),
-        ["g", "af", payload, lent] => listed_gateway_nan(payload, lent, rust),
-        _ => None,
-    };
-    listed.unwrap_or(Expected::Same)
+/// Goes through a script call by call.
+pub struct Listing {
+    table: Option<Table>,
 }
 
-fn listed_panic(input: &str, ours: impl Fn(u64) -> String) -> Option<Expected> {
+impl Listing {
+    pub fn new() -> Self {
+        Listing {
+            table: Some(Table::default()),
+        }
+    }
+
+    /// What ours must answer to a call that the Rust answered so.
+    pub fn expected(&mut self, call: &str, rust: &str) -> Expected {
+        let fields: Vec<&str> = call.split(' ').collect();
+        self.follow(&fields, rust);
+        self.listed(&fields, rust).unwrap_or(Expected::Same)
+    }
+
+    fn follow(&mut self, fields: &[&str], rust: &str) {
+        match fields {
+            ["table", entries, parts] if rust == "ok" => self.table = Table::read(entries, parts),
+            ["table", ..] if rust == "X 10" => self.table = None,
+            _ => {}
+        }
+    }
+
+    fn listed(&self, fields: &[&str], rust: &str) -> Option<Expected> {
+        match (fields, rust) {
+            (["rs", input], "PANIC") => panic_of(input, |value| format!("V {value} 8")),
+            (["g", "rs", input, lent], "PANIC") => panic_of(input, |value| written(value, lent)),
+            (["afb", payload], _) => nan(payload, rust.strip_prefix("D ")?, |bits| format!("D {bits:016X}")),
+            (["g", "af", payload, lent], _) => {
+                nan(payload, rust.strip_prefix("8 ")?.get(..16)?, |bits| written(bits, lent))
+            }
+            (["check"], "NOCHECK") => Some(listed(CHECK, self.check())),
+            (["ended" | "path", ..], "NOTABLE") => Some(listed(TABLE_SHAPE, "X 10".to_string())),
+            _ => None,
+        }
+    }
+
+    fn check(&self) -> String {
+        self.table.as_ref().map_or_else(|| "X 10".to_string(), Table::check)
+    }
+}
+
+fn listed(kind: &'static str, ours: String) -> Expected {
+    Expected::Listed { kind, ours }
+}
+
+fn panic_of(input: &str, ours: impl Fn(u64) -> String) -> Option<Expected> {
     let value = eight_byte_value(&bytes(input)?)?;
     let is_negative = value >> 55 == 1;
-    (!is_negative).then(|| Expected::Listed {
-        kind: SIGNED_VINT_PANIC,
-        ours: ours(value),
-    })
+    (!is_negative).then(|| listed(SIGNED_VINT_PANIC, ours(value)))
 }
 
 /// The 56 bits of a vint of 8 bytes.
@@ -40,18 +75,10 @@ fn eight_byte_value(input: &[u8]) -> Option<u64> {
     (vint[0] == 1).then(|| u64::from_be_bytes(vint) - (1 << 56))
 }
 
-fn listed_gateway_nan(payload: &str, lent: &str, rust: &str) -> Option<Expected> {
-    let bits = rust.strip_prefix("8 ")?.get(..16)?;
-    listed_nan(payload, bits, |bits| written(bits, lent))
-}
-
-fn listed_nan(payload: &str, rust: &str, ours: impl Fn(u64) -> String) -> Option<Expected> {
+fn nan(payload: &str, rust: &str, ours: impl Fn(u64) -> String) -> Option<Expected> {
     let rust = u64::from_str_radix(rust, 16).ok()?;
     let bits = nan_bits(&bytes(payload)?)?;
-    (is_nan(rust) && bits != rust).then(|| Expected::Listed {
-        kind: NAN_BITS,
-        ours: ours(bits),
-    })
+    (is_nan(rust) && bits != rust).then(|| listed(NAN_BITS, ours(bits)))
 }
 
 /// The bits of a NaN: a wide one as it is; a narrow one keeps sign and fraction, and its quiet bit is set.

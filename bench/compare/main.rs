@@ -3,7 +3,7 @@
 //! The result is 1 if a difference is not a listed one.
 
 use judging::calls::{answers, calls};
-use judging::listed::{expected, Expected};
+use judging::listed::{Expected, Listing};
 use std::collections::BTreeMap;
 use std::path::{Path, PathBuf};
 use std::process::ExitCode;
@@ -39,12 +39,13 @@ fn main() -> io::Result<ExitCode> {
 
 fn compare(folder: &Path, name: &str) -> io::Result<Counts> {
     let mut counts = Counts::default();
+    let mut listing = Listing::new();
     let mut ours = answers(folder, name, "ours")?;
     let mut rust = answers(folder, name, "rust")?;
     for call in calls(folder, name)? {
         let rust = rust.next().transpose()?.unwrap_or_else(|| "(no answer)".to_string());
         let ours = ours.next().transpose()?.unwrap_or_else(|| "(no answer)".to_string());
-        counts.judge(&call, &rust, &ours);
+        counts.judge(listing.expected(&call, &rust), &call, &rust, &ours);
     }
     for left in ours.chain(rust) {
         counts.differ("(no call)", "", &left?);
@@ -53,9 +54,9 @@ fn compare(folder: &Path, name: &str) -> io::Result<Counts> {
 }
 
 impl Counts {
-    fn judge(&mut self, call: &str, rust: &str, ours: &str) {
+    fn judge(&mut self, expected: Expected, call: &str, rust: &str, ours: &str) {
         self.calls += 1;
-        match expected(call, rust) {
+        match expected {
             Expected::Same if ours == rust => self.equal += 1,
             Expected::Listed { kind, ours: wanted } if ours == wanted => *self.listed.entry(kind).or_default() += 1,
             Expected::Listed { ours: wanted, .. } => self.differ(call, &format!("{rust} (ours to be: {wanted})"), ours),

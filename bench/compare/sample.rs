@@ -4,7 +4,7 @@
 //! of each class the same number is taken, spread evenly over the class.
 
 use judging::calls::{answers, calls};
-use judging::listed::{expected, Expected};
+use judging::listed::{Expected, Listing};
 use oracle::fields::{bytes, unsigned};
 use std::collections::{HashMap, HashSet};
 use std::fs::File;
@@ -56,14 +56,15 @@ fn sample(folder: &Path, names: impl Iterator<Item = String>) -> io::Result<Vec<
 fn answered(folder: &Path, name: &str) -> io::Result<Vec<Answered>> {
     let calls = calls(folder, name)?;
     let answers = answers(folder, name, "rust")?;
+    let mut listing = Listing::new();
     calls
         .zip(answers)
-        .map(|(call, rust)| Ok(expected_answer(call, &rust?)))
+        .map(|(call, rust)| Ok(expected_answer(&mut listing, call, &rust?)))
         .collect()
 }
 
-fn expected_answer(call: String, rust: &str) -> Answered {
-    let answer = match expected(&call, rust) {
+fn expected_answer(listing: &mut Listing, call: String, rust: &str) -> Answered {
+    let answer = match listing.expected(&call, rust) {
         Expected::Same => rust.to_string(),
         Expected::Listed { ours, .. } => ours,
     };

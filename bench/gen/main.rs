@@ -5,6 +5,8 @@ mod lines;
 mod numbers;
 mod prng;
 mod script;
+mod table;
+mod tables;
 
 use std::path::PathBuf;
 use std::{env, io};
@@ -18,5 +20,6 @@ fn main() -> io::Result<()> {
         .next()
         .map_or(SEED, |seed| seed.parse().expect("SEED is a number"));
     lines::generate(&folder)?;
-    numbers::generate(&folder, seed)
+    numbers::generate(&folder, seed)?;
+    tables::generate(&folder, seed)
 }

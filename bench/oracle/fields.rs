@@ -40,6 +40,23 @@ fn is_decimal(field: &str) -> bool {
     (1..=20).contains(&field.len()) && field.bytes().all(|character| character.is_ascii_digit())
 }
 
+/// A number in hex, without leading zeros.
+pub fn word(field: &str) -> Option<u64> {
+    let is_word = (1..=16).contains(&field.len()) && field.bytes().all(|character| digit(character).is_some());
+    if !is_word || (field.len() > 1 && field.starts_with('0')) {
+        return None;
+    }
+    u64::from_str_radix(field, 16).ok()
+}
+
+/// Items separated by commas, `-` for none.
+pub fn list<T>(field: &str, item: impl Fn(&str) -> Option<T>) -> Option<Vec<T>> {
+    if field == "-" {
+        return Some(Vec::new());
+    }
+    field.split(',').map(item).collect()
+}
+
 pub fn hex(bytes: &[u8]) -> String {
     if bytes.is_empty() {
         return "-".to_string();

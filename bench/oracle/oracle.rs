@@ -2,6 +2,7 @@
 
 pub mod fields;
 mod numbers;
+pub mod table;
 
 pub const LONGEST_LINE: usize = 16_384;
 
@@ -23,7 +24,7 @@ impl Oracle {
 
     fn call(&mut self, line: &[u8]) -> Option<String> {
         let fields: Vec<&str> = std::str::from_utf8(line).ok()?.split(' ').collect();
-        numbers::answer(&fields)
+        numbers::answer(&fields).or_else(|| table::answer(&fields))
     }
 }
 
