@@ -1,0 +1,59 @@
+-- `utf8::past_ascii`. The invariant: from i to `at` there are whole characters. Assumes nothing.
+use Prim.Native.Nat.{_-_}
+use native.Mathlib.Omega.{arith}
+use borrow.Author.Tests.{not-false}
+use lib.ListN.{length}
+use Rattle.utf8.specs.Rfc3629.{Passed}
+use Rattle.utf8.proofs.Text.{passed-none, passed-more, passed-ascii}
+use Rattle.utf8.proofs.past_ascii.Statement.{statement}
+use Rattle.utf8.proofs.past_ascii.Tie as tie
+use Rattle.utf8.proofs.past_ascii.Reads as reads
+use Rattle.utf8.proofs.past_ascii.Lts as lts
+use Rattle.utf8.proofs.eight_ascii.Reads as eight-ascii-reads
+
+abbrev Inv-loop : tie.InvT-loop
+Inv-loop s i at₀ at = Passed s i at
+
+abbrev μ-loop : tie.MeasureT-loop
+μ-loop s i at₀ at = length s - at
+
+loop-holds : tie.Need-loop-holds Inv-loop μ-loop
+loop-holds c = passed-none _ _ (omega arith)
+
+sub-loop : tie.Need-sub-loop Inv-loop μ-loop
+sub-loop c = omega arith
+
+eight-ascii-requires : tie.Need-eight-ascii-requires Inv-loop μ-loop
+eight-ascii-requires c κs = omega arith
+
+returns : tie.Need-returns Inv-loop μ-loop
+returns c = c .before .before .before .loop .inv
+
+add-at : tie.Need-add-at Inv-loop μ-loop
+add-at c = omega arith
+
+loop-less : tie.Need-loop-less Inv-loop μ-loop
+loop-less c = omega arith
+
+loop-again : tie.Need-loop-again Inv-loop μ-loop
+loop-again c =
+    passed-more (c .before .before .before .loop .inv)
+    (passed-ascii _ _ 8 (omega arith) (c .before .eight-ascii .ensures (not-false _ (c .if1 .left))))
+
+returns-2 : tie.Need-returns-2 Inv-loop μ-loop
+returns-2 c = c .before .loop .inv
+
+pub past-ascii-spec : {M : Type 1} → statement M
+past-ascii-spec =
+    tie.close
+    (tie.spec
+    Inv-loop
+    μ-loop
+    loop-holds
+    sub-loop
+    eight-ascii-requires
+    returns
+    add-at
+    loop-less
+    loop-again
+    returns-2)
