@@ -13,31 +13,31 @@ fn either(a: u8, b: u8) -> u8
     a | b
 }
 
-// Whether the eight octets at i are ASCII.
-fn eight_ascii(s: &[u8], i: usize) -> bool
-    requires { ⌜ i + 8 ≤ length (now s) ⌝ }
-    ensures { λ r. ⌜ (r ≡ true → (k : ℕ) → k < 8 → getD (now (s .entry)) (i + k) 0 < 0x80) ⌝ }
+// Whether the n octets at i are ASCII.
+fn all_ascii(s: &[u8], i: usize, n: usize) -> bool
+    requires { ⌜ i + n ≤ length (now s) ⌝ }
+    ensures { λ r. ⌜ (r ≡ true → (k : ℕ) → k < n → getD (now (s .entry)) (i + k) 0 < 0x80) ⌝ }
 {
     let mut all: u8 = 0;
     let mut k: usize = 0;
-    while k < 8 {
+    while k < n {
         all = either(all, s[i + k]);
         k += 1;
     }
     all < 0x80
 }
 
-// Past the ASCII octets from i on, eight at a time.
-fn past_ascii(s: &[u8], i: usize) -> usize
-    requires { ⌜ i ≤ length (now s) ⌝ }
+// Past the ASCII octets from i on, n at a time.
+fn past_ascii(s: &[u8], i: usize, n: usize) -> usize
+    requires { ⌜ (i ≤ length (now s)) × (0 < n) ⌝ }
     ensures { λ r. ⌜ Passed (now (s .entry)) i r ⌝ }
 {
     let mut at = i;
-    while 8 <= s.len() - at {
-        if !eight_ascii(s, at) {
+    while n <= s.len() - at {
+        if !all_ascii(s, at, n) {
             return at;
         }
-        at += 8;
+        at += n;
     }
     at
 }
@@ -74,18 +74,37 @@ fn char_length(s: &[u8], i: usize) -> usize
     ensures { λ r. ⌜ r ≡ charLength (drop i (now (s .entry))) ⌝ }
 {
     let first = s[i];
-    match first {
-        0x00..=0x7F => 1,
-        0xC2..=0xDF => followed(s, i, 1, 0x80, 0xBF),
-        0xE0 => followed(s, i, 2, 0xA0, 0xBF),
-        0xE1..=0xEC => followed(s, i, 2, 0x80, 0xBF),
-        0xED => followed(s, i, 2, 0x80, 0x9F),
-        0xEE..=0xEF => followed(s, i, 2, 0x80, 0xBF),
-        0xF0 => followed(s, i, 3, 0x90, 0xBF),
-        0xF1..=0xF3 => followed(s, i, 3, 0x80, 0xBF),
-        0xF4 => followed(s, i, 3, 0x80, 0x8F),
-        _ => 0,
+    if first < 0x80 {
+        return 1;
     }
+    if first < 0xC2 {
+        return 0;
+    }
+    if first < 0xE0 {
+        return followed(s, i, 1, 0x80, 0xBF);
+    }
+    if first == 0xE0 {
+        return followed(s, i, 2, 0xA0, 0xBF);
+    }
+    if first < 0xED {
+        return followed(s, i, 2, 0x80, 0xBF);
+    }
+    if first == 0xED {
+        return followed(s, i, 2, 0x80, 0x9F);
+    }
+    if first < 0xF0 {
+        return followed(s, i, 2, 0x80, 0xBF);
+    }
+    if first == 0xF0 {
+        return followed(s, i, 3, 0x90, 0xBF);
+    }
+    if first < 0xF4 {
+        return followed(s, i, 3, 0x80, 0xBF);
+    }
+    if first == 0xF4 {
+        return followed(s, i, 3, 0x80, 0x8F);
+    }
+    0
 }
 
 pub fn is_utf8(s: &[u8]) -> bool
@@ -94,7 +113,7 @@ pub fn is_utf8(s: &[u8]) -> bool
     let mut i: usize = 0;
     while i < s.len() {
         if s[i] < 0x80 {
-            i = past_ascii(s, i + 1);
+            i = past_ascii(s, past_ascii(s, i + 1, 64), 8);
         } else {
             let n = char_length(s, i);
             if n == 0 {

@@ -31,15 +31,18 @@ add-past-ascii c = omega arith
 past-ascii-requires : tie.Need-past-ascii-requires Inv-loop μ-loop
 past-ascii-requires c κs = omega arith
 
+past-ascii-requires-2 : tie.Need-past-ascii-requires-2 Inv-loop μ-loop
+past-ascii-requires-2 c κs = omega arith
+
 loop-less : tie.Need-loop-less Inv-loop μ-loop
 loop-less c = omega arith
 
 loop-again : tie.Need-loop-again Inv-loop μ-loop
 loop-again c =
-    let s = c .before .before .before .before .before .before .args .s .now in
-    let l = c .before .before .before .before .loop in
-    let one = ascii-char s (l .i) (omega arith) (omega arith) in
-    passed-more (l .inv) (passed-more (passed-char s (l .i) 1 (omega arith) one (omega arith)) (c .past-ascii .ensures))
+    let s = c .before .before .before .before .before .before .before .args .s .now in
+    let l = c .before .before .before .before .before .loop in
+    let first = passed-char s (l .i) 1 (omega arith) (ascii-char s (l .i) (omega arith) (omega arith)) (omega arith) in
+    passed-more (l .inv) (passed-more first (passed-more (c .before .past-ascii .ensures) (c .past-ascii2 .ensures)))
 
 char-length-requires : tie.Need-char-length-requires Inv-loop μ-loop
 char-length-requires c κs = omega arith
@@ -50,26 +53,18 @@ returns c =
     let l = c .before .before .before .before .before .loop in
     sym (stop s (l .i) (omega arith) (sym (c .before .char-length .ensures) ∙ c .if2 .taken)) ∙ l .inv .same
 
+next : (c : tie.Else2 Inv-loop μ-loop)
+    → Passed (c .before .before .before .before .before .before .before .args .s .now) (c .before .before .before .before .before .loop .i) (c .before .before .before .before .before .loop .i + c .before .char-length .result)
+next c = passed-char _ _ _ (omega arith) (sym (c .before .char-length .ensures)) (omega arith)
+
 add-i : tie.Need-add-i Inv-loop μ-loop
-add-i c =
-    let s = c .before .before .before .before .before .before .before .args .s .now in
-    let l = c .before .before .before .before .before .loop in
-    let p = passed-char s (l .i) (c .before .char-length .result) (omega arith) (sym (c .before .char-length .ensures)) (omega arith) in
-    omega arith
+add-i c = let p = next c in omega arith
 
 loop-less-2 : tie.Need-loop-less-2 Inv-loop μ-loop
-loop-less-2 c =
-    let s = c .before .before .before .before .before .before .before .args .s .now in
-    let l = c .before .before .before .before .before .loop in
-    let p = passed-char s (l .i) (c .before .char-length .result) (omega arith) (sym (c .before .char-length .ensures)) (omega arith) in
-    omega arith
+loop-less-2 c = let p = next c in omega arith
 
 loop-again-2 : tie.Need-loop-again-2 Inv-loop μ-loop
-loop-again-2 c =
-    let s = c .before .before .before .before .before .before .before .args .s .now in
-    let l = c .before .before .before .before .before .loop in
-    let p = passed-char s (l .i) (c .before .char-length .result) (omega arith) (sym (c .before .char-length .ensures)) (omega arith) in
-    passed-more (l .inv) p
+loop-again-2 c = passed-more (c .before .before .before .before .before .loop .inv) (next c)
 
 returns-2 : tie.Need-returns-2 Inv-loop μ-loop
 unfolding textAfter
@@ -89,6 +84,7 @@ is-utf8-spec =
     shared-slice-read-if1
     add-past-ascii
     past-ascii-requires
+    past-ascii-requires-2
     loop-less
     loop-again
     char-length-requires

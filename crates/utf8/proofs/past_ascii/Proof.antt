@@ -9,13 +9,13 @@ use Rattle.utf8.proofs.past_ascii.Statement.{statement}
 use Rattle.utf8.proofs.past_ascii.Tie as tie
 use Rattle.utf8.proofs.past_ascii.Reads as reads
 use Rattle.utf8.proofs.past_ascii.Lts as lts
-use Rattle.utf8.proofs.eight_ascii.Reads as eight-ascii-reads
+use Rattle.utf8.proofs.all_ascii.Reads as all-ascii-reads
 
 abbrev Inv-loop : tie.InvT-loop
-Inv-loop s i at₀ at = Passed s i at
+Inv-loop s i n at₀ at = Passed s i at
 
 abbrev μ-loop : tie.MeasureT-loop
-μ-loop s i at₀ at = length s - at
+μ-loop s i n at₀ at = length s - at
 
 loop-holds : tie.Need-loop-holds Inv-loop μ-loop
 loop-holds c = passed-none _ _ (omega arith)
@@ -23,8 +23,8 @@ loop-holds c = passed-none _ _ (omega arith)
 sub-loop : tie.Need-sub-loop Inv-loop μ-loop
 sub-loop c = omega arith
 
-eight-ascii-requires : tie.Need-eight-ascii-requires Inv-loop μ-loop
-eight-ascii-requires c κs = omega arith
+all-ascii-requires : tie.Need-all-ascii-requires Inv-loop μ-loop
+all-ascii-requires c κs = omega arith
 
 returns : tie.Need-returns Inv-loop μ-loop
 returns c = c .before .before .before .loop .inv
@@ -38,7 +38,7 @@ loop-less c = omega arith
 loop-again : tie.Need-loop-again Inv-loop μ-loop
 loop-again c =
     passed-more (c .before .before .before .loop .inv)
-    (passed-ascii _ _ 8 (omega arith) (c .before .eight-ascii .ensures (not-false _ (c .if1 .left))))
+    (passed-ascii _ _ _ (omega arith) (c .before .all-ascii .ensures (not-false _ (c .if1 .left))))
 
 returns-2 : tie.Need-returns-2 Inv-loop μ-loop
 returns-2 c = c .before .loop .inv
@@ -51,7 +51,7 @@ past-ascii-spec =
     μ-loop
     loop-holds
     sub-loop
-    eight-ascii-requires
+    all-ascii-requires
     returns
     add-at
     loop-less

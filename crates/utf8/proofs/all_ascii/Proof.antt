@@ -1,18 +1,18 @@
--- `utf8::eight_ascii`. The invariant: each of the k octets passed is at most `all`. Assumes nothing.
+-- `utf8::all_ascii`. The invariant: each of the k octets passed is at most `all`. Assumes nothing.
 use Prim.Native.Nat.{ℕ, _+_, _-_, _≤_, _<_}
 use native.Mathlib.Omega.{arith}
 use borrow.Author.Count.{below-none, below-more}
 use borrow.Author.Needs.{needs}
 use borrow.Author.Tests.{ltb-true}
 use lib.ListN.{getD}
-use Rattle.utf8.proofs.eight_ascii.Statement.{statement}
-use Rattle.utf8.proofs.eight_ascii.Tie as tie
+use Rattle.utf8.proofs.all_ascii.Statement.{statement}
+use Rattle.utf8.proofs.all_ascii.Tie as tie
 
 abbrev Inv-loop : tie.InvT-loop
-Inv-loop s i all₀ k₀ all k = (k ≤ 8) × ((j : ℕ) → j < k → getD s (i + j) 0 ≤ all)
+Inv-loop s i n all₀ k₀ all k = (k ≤ n) × ((j : ℕ) → j < k → getD s (i + j) 0 ≤ all)
 
 abbrev μ-loop : tie.MeasureT-loop
-μ-loop s i all₀ k₀ all k = 8 - k
+μ-loop s i n all₀ k₀ all k = n - k
 
 loop-holds : tie.Need-loop-holds Inv-loop μ-loop
 loop-holds c = (omega arith, below-none _)
@@ -40,8 +40,8 @@ loop-again c =
 returns : tie.Need-returns Inv-loop μ-loop
 returns c = λ e k h. omega (arith, c .before .loop .inv .1 k (omega arith), ltb-true (c .before .loop .all) 0x80 e)
 
-pub eight-ascii-spec : {M : Type 1} → statement M
-eight-ascii-spec =
+pub all-ascii-spec : {M : Type 1} → statement M
+all-ascii-spec =
     tie.close
     (tie.spec
     Inv-loop
