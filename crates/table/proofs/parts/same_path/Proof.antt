@@ -1,0 +1,104 @@
+-- `table::parts::same_path`. The invariant: the parts passed are equal in pairs, so the rests decide. Assumes nothing.
+use Prim.Native.Nat.{_-_, _≤_, _<_}
+use mathlib.Core.Path.{_≡_, refl, sym, _∙_}
+use mathlib.Core.Bool.{true, false}
+use borrow.Author.Tests.{not-true, not-false}
+use native.Mathlib.Omega.{arith}
+use lib.ListN.{length, getD, drop}
+use Rattle.table.specs.Table.{partsOf, within, samePart, samePath}
+use Rattle.table.specs.declared.types.PathPart.the-variants.{Id}
+use Rattle.table.proofs.Same.{same-lengths, same-fails, same-next, same-end}
+use Rattle.table.proofs.parts.same_path.Statement.{statement}
+use Rattle.table.proofs.parts.same_path.Tie as tie
+
+abbrev Inv-loop : tie.InvT-loop
+Inv-loop parts a b count i₀ i = (i ≤ count) × (samePath (within (partsOf parts) a) (within (partsOf parts) b) ≡ samePath (drop i (within (partsOf parts) a)) (drop i (within (partsOf parts) b)))
+
+abbrev μ-loop : tie.MeasureT-loop
+μ-loop parts a b count i₀ i = count - i
+
+path-length-requires : tie.Need-path-length-requires Inv-loop μ-loop
+path-length-requires c κs = tt
+
+path-length-requires-2 : tie.Need-path-length-requires-2 Inv-loop μ-loop
+path-length-requires-2 c κs = tt
+
+returns : tie.Need-returns Inv-loop μ-loop
+returns c = sym (same-lengths _ _ (λ e. absurd (omega arith)))
+
+path-length-requires-3 : tie.Need-path-length-requires-3 Inv-loop μ-loop
+path-length-requires-3 c κs = tt
+
+returns-2 : tie.Need-returns-2 Inv-loop μ-loop
+returns-2 c = sym (same-lengths _ _ (λ e. absurd (omega arith)))
+
+loop-holds : tie.Need-loop-holds Inv-loop μ-loop
+loop-holds c = (omega arith, refl)
+
+path-part-requires : tie.Need-path-part-requires Inv-loop μ-loop
+path-part-requires c κs = tt
+
+path-part-requires-2 : tie.Need-path-part-requires-2 Inv-loop μ-loop
+path-part-requires-2 c κs = tt
+
+same-part-requires : tie.Need-same-part-requires Inv-loop μ-loop
+same-part-requires c κs = tt
+
+returns-3 : tie.Need-returns-3 Inv-loop μ-loop
+returns-3 c =
+    let t = c .before .before .before .before .before in
+    let a = t .before .before .before .before .before .before .before .args in
+    let A = within (partsOf (a .parts .now)) (a .a) in
+    let B = within (partsOf (a .parts .now)) (a .b) in
+    let ha : t .loop .i < length A = omega arith in
+    let hb : t .loop .i < length B = omega arith in
+    let e : samePart (getD A (t .loop .i) (Id 0)) (getD B (t .loop .i) (Id 0)) ≡ false = rw (← c .before .before .before .path-part .ensures, ← c .before .before .path-part2 .ensures, ← c .before .same-part .ensures) (not-true _ (c .if3 .taken)) in
+    sym (t .loop .inv .1 ∙ same-fails A B (Id 0) (t .loop .i) ha hb e)
+
+add-i : tie.Need-add-i Inv-loop μ-loop
+add-i c = omega arith
+
+loop-less : tie.Need-loop-less Inv-loop μ-loop
+loop-less c = omega arith
+
+loop-again : tie.Need-loop-again Inv-loop μ-loop
+loop-again c =
+    let t = c .before .before .before .before .before in
+    let a = t .before .before .before .before .before .before .before .args in
+    let A = within (partsOf (a .parts .now)) (a .a) in
+    let B = within (partsOf (a .parts .now)) (a .b) in
+    let ha : t .loop .i < length A = omega arith in
+    let hb : t .loop .i < length B = omega arith in
+    let e : samePart (getD A (t .loop .i) (Id 0)) (getD B (t .loop .i) (Id 0)) ≡ true = rw (← c .before .before .before .path-part .ensures, ← c .before .before .path-part2 .ensures, ← c .before .same-part .ensures) (not-false _ (c .if3 .left)) in
+    (omega arith, t .loop .inv .1 ∙ same-next A B (Id 0) (t .loop .i) ha hb e)
+
+returns-4 : tie.Need-returns-4 Inv-loop μ-loop
+returns-4 c =
+    let t = c .before in
+    let a = t .before .before .before .before .before .before .before .args in
+    let A = within (partsOf (a .parts .now)) (a .a) in
+    let B = within (partsOf (a .parts .now)) (a .b) in
+    let ha : length A ≤ t .loop .i = omega arith in
+    let hb : length B ≤ t .loop .i = omega arith in
+    sym (t .loop .inv .1 ∙ same-end A B (t .loop .i) ha hb)
+
+pub same-path-spec : {M : Type 1} → statement M
+same-path-spec =
+    tie.close
+    (tie.spec
+    Inv-loop
+    μ-loop
+    path-length-requires
+    path-length-requires-2
+    returns
+    path-length-requires-3
+    returns-2
+    loop-holds
+    path-part-requires
+    path-part-requires-2
+    same-part-requires
+    returns-3
+    add-i
+    loop-less
+    loop-again
+    returns-4)

@@ -1,0 +1,124 @@
+-- `table::shape::good_entries`. The invariant: each entry passed is good. Assumes nothing.
+use Prim.Native.Nat.{ℕ, _-_, _≤_, _<_}
+use mathlib.Core.Path.{_≡_, refl, sym, _∙_}
+use mathlib.Core.Bool.{Bool, true, false}
+use borrow.Author.Tests.{not-true, not-false}
+use native.Mathlib.Omega.{arith}
+use lib.ListN.{length, getD, drop}
+use Rattle.table.specs.Lists.{every}
+use Rattle.table.specs.Table.{fours}
+use Rattle.table.specs.Shape.{goodEntry, goodEntries}
+use Rattle.table.proofs.Words.{length-fours, fours-at}
+use Rattle.table.proofs.Loops.{every-fails, every-next, every-end}
+use Rattle.table.proofs.shape.good_entries.Statement.{statement}
+use Rattle.table.proofs.shape.good_entries.Tie as tie
+
+abbrev good : ℕ → ℕ → ℕ → ℕ → ℕ → Bool
+good all id kind first count = goodEntry all kind first count
+
+abbrev Inv-loop : tie.InvT-loop
+Inv-loop entries all count i₀ i = (i ≤ count) × (goodEntries all entries ≡ every (λ (good : Bool). good) (drop i (fours (good all) entries)))
+
+abbrev μ-loop : tie.MeasureT-loop
+μ-loop entries all count i₀ i = count - i
+
+loop-holds : tie.Need-loop-holds Inv-loop μ-loop
+unfolding goodEntries
+loop-holds c = (omega arith, refl)
+
+mul-good-entry : tie.Need-mul-good-entry Inv-loop μ-loop
+mul-good-entry c = omega arith
+
+add-good-entry : tie.Need-add-good-entry Inv-loop μ-loop
+add-good-entry c = omega arith
+
+mul-good-entry-2 : tie.Need-mul-good-entry-2 Inv-loop μ-loop
+mul-good-entry-2 c = omega arith
+
+shared-slice-read-good-entry : tie.Need-shared-slice-read-good-entry Inv-loop μ-loop
+shared-slice-read-good-entry c = omega arith
+
+mul-good-entry-3 : tie.Need-mul-good-entry-3 Inv-loop μ-loop
+mul-good-entry-3 c = omega arith
+
+add-good-entry-2 : tie.Need-add-good-entry-2 Inv-loop μ-loop
+add-good-entry-2 c = omega arith
+
+mul-good-entry-4 : tie.Need-mul-good-entry-4 Inv-loop μ-loop
+mul-good-entry-4 c = omega arith
+
+shared-slice-read-good-entry-2 : tie.Need-shared-slice-read-good-entry-2 Inv-loop μ-loop
+shared-slice-read-good-entry-2 c = omega arith
+
+mul-good-entry-5 : tie.Need-mul-good-entry-5 Inv-loop μ-loop
+mul-good-entry-5 c = omega arith
+
+add-good-entry-3 : tie.Need-add-good-entry-3 Inv-loop μ-loop
+add-good-entry-3 c = omega arith
+
+mul-good-entry-6 : tie.Need-mul-good-entry-6 Inv-loop μ-loop
+mul-good-entry-6 c = omega arith
+
+shared-slice-read-good-entry-3 : tie.Need-shared-slice-read-good-entry-3 Inv-loop μ-loop
+shared-slice-read-good-entry-3 c = omega arith
+
+good-entry-requires : tie.Need-good-entry-requires Inv-loop μ-loop
+good-entry-requires c κs = tt
+
+returns : tie.Need-returns Inv-loop μ-loop
+returns c =
+    let t = c .before .before .before .before .before .before in
+    let f = good (t .before .before .args .all) in
+    let es = t .before .before .args .entries .now in
+    let h : t .loop .i < length (fours f es) = rw (length-fours f es) (omega arith) in
+    let e : getD (fours f es) (t .loop .i) true ≡ false = fours-at f es (t .loop .i) true (omega arith) ∙ sym (c .before .good-entry .ensures) ∙ not-true _ (c .if1 .taken) in
+    sym (t .loop .inv .1 ∙ every-fails (λ (good : Bool). good) (fours f es) true (t .loop .i) h e)
+
+add-i : tie.Need-add-i Inv-loop μ-loop
+add-i c = omega arith
+
+loop-less : tie.Need-loop-less Inv-loop μ-loop
+loop-less c = omega arith
+
+loop-again : tie.Need-loop-again Inv-loop μ-loop
+loop-again c =
+    let t = c .before .before .before .before .before .before in
+    let f = good (t .before .before .args .all) in
+    let es = t .before .before .args .entries .now in
+    let h : t .loop .i < length (fours f es) = rw (length-fours f es) (omega arith) in
+    let e : getD (fours f es) (t .loop .i) true ≡ true = fours-at f es (t .loop .i) true (omega arith) ∙ sym (c .before .good-entry .ensures) ∙ not-false _ (c .if1 .left) in
+    (omega arith, t .loop .inv .1 ∙ every-next (λ (good : Bool). good) (fours f es) true (t .loop .i) h e)
+
+returns-2 : tie.Need-returns-2 Inv-loop μ-loop
+returns-2 c =
+    let t = c .before in
+    let f = good (t .before .before .args .all) in
+    let es = t .before .before .args .entries .now in
+    let h : length (fours f es) ≤ t .loop .i = rw (length-fours f es) (omega arith) in
+    sym (t .loop .inv .1 ∙ every-end (λ (good : Bool). good) (fours f es) (t .loop .i) h)
+
+pub good-entries-spec : {M : Type 1} → statement M
+good-entries-spec =
+    tie.close
+    (tie.spec
+    Inv-loop
+    μ-loop
+    loop-holds
+    mul-good-entry
+    add-good-entry
+    mul-good-entry-2
+    shared-slice-read-good-entry
+    mul-good-entry-3
+    add-good-entry-2
+    mul-good-entry-4
+    shared-slice-read-good-entry-2
+    mul-good-entry-5
+    add-good-entry-3
+    mul-good-entry-6
+    shared-slice-read-good-entry-3
+    good-entry-requires
+    returns
+    add-i
+    loop-less
+    loop-again
+    returns-2)

@@ -1,0 +1,8 @@
+// The lent table, which stands for the Rust's `TSpec`: two slices of words, entries and path parts.
+// Every routine answers on any words; what each answer is stands in specs/.
+
+pub mod check;
+pub mod lookup;
+pub mod parts;
+pub mod shape;
+pub mod types;
