@@ -2,7 +2,6 @@
 -- holds its path. Assumes nothing.
 use Prim.Native.Nat.{ℕ, zero, suc, _+_, _*_, _/_, _≤_, _<_, min}
 use mathlib.Core.Path.{_≡_, refl, ap}
-use mathlib.Core.Bool.{Bool, true, false, cond}
 use mathlib.Core.List.{List, [], _∷_}
 use borrow.Author.Tests.{eq-eqb, ne-eqb}
 use native.Mathlib.Decide.{decLe}
@@ -13,6 +12,8 @@ use lib.Dec.{eqb}
 use lib.ListN.{length, getD, take, drop, drop-of-length-le, length-drop, List·getD-eq-default}
 use lib.Seq.{drop-cons, take-nil}
 use Rattle.table.specs.Table.{Entry, partsOf, within, clipped, entryOf, tableOf, unlisted, entryFor, pathOf, rangeOf}
+use Rattle.table.specs.declared.types.Path.{Path}
+use Rattle.table.proofs.Loops.{either}
 use Rattle.table.proofs.Words.{length-fours, fours-at}
 
 module _ (es ps : List ℕ) where
@@ -46,10 +47,6 @@ module _ (t : List Entry) (id i : ℕ) where
   unfolding entryFor
   for-end h = rw (drop-of-length-le t h)
 
-either : {A : Type 0} (P : A → Type 0) (b : Bool) (x y : A) → P x → P y → P (cond b x y)
-either P true x y p q = p
-either P false x y p q = q
-
 -- what holds of each entry, and of an ID that is not listed, holds of what is looked up
 pub for-every : (P : Entry → Type 0) (t : List Entry) → P unlisted → ((i : ℕ) → i < length t → P (getD t i unlisted))
     → ((id : ℕ) → P (entryFor t id))
@@ -60,7 +57,7 @@ for-every P (e ∷ t) u p id =
 
 -- ---- the range of an entry holds its path
 
-take-as-many : {A : Type 0} (n : ℕ) (l : List A) → take (min n (length l)) l ≡ take n l
+pub take-as-many : {A : Type 0} (n : ℕ) (l : List A) → take (min n (length l)) l ≡ take n l
 take-as-many zero l = rw (zero-min (length l))
 take-as-many (suc n) [] = take-nil (min (suc n) 0)
 take-as-many (suc n) (a ∷ l) = rw (suc-min-suc n (length l)) (ap (λ (m : List _). a ∷ m) (take-as-many n l))
@@ -80,3 +77,6 @@ module _ (es ps : List ℕ) where
   -- the parts in the range that is looked up are the path
   pub path-in : (id : ℕ) → within (partsOf ps) (rangeOf (tableOf es ps) id) ≡ pathOf (tableOf es ps) id
   path-in id = for-every (λ e. within (partsOf ps) (e .range) ≡ e .path) (tableOf es ps) refl (λ i h. path-at i) id
+
+  pub path-of : (id : ℕ) {r : Path} → r ≡ rangeOf (tableOf es ps) id → within (partsOf ps) r ≡ pathOf (tableOf es ps) id
+  path-of id q = rw q (path-in id)

@@ -1,8 +1,8 @@
 -- A loop that tests the elements of a list in turn: what is left from place i on, where the element there passes, where it fails, and at
--- the end. Assumes nothing.
+-- the end; and a case law of `cond`. Assumes nothing.
 use Prim.Native.Nat.{ℕ, _+_, _≤_, _<_}
 use mathlib.Core.Path.{_≡_}
-use mathlib.Core.Bool.{Bool, true, false}
+use mathlib.Core.Bool.{Bool, true, false, cond}
 use mathlib.Core.List.{List}
 use native.Mathlib.Numerals.{add-one}
 use lib.ListN.{length, getD, drop, drop-of-length-le}
@@ -34,3 +34,8 @@ module _ {A : Type 0} (test : A → Bool) (l : List A) (i : ℕ) (h : length l �
   pub any-end : any test (drop i l) ≡ false
   unfolding any
   any-end = rw (drop-of-length-le l h)
+
+-- what holds of both holds of the one that a test picks
+pub either : {A : Type 0} (P : A → Type 0) (b : Bool) (x y : A) → P x → P y → P (cond b x y)
+either P true x y p q = p
+either P false x y p q = q

@@ -10,7 +10,7 @@ use Rattle.table.specs.Table.{partsOf, within, tableOf, pathOf, samePath
 use Rattle.table.specs.Check.{ownPaths}
 use Rattle.table.specs.declared.types.PathPart.the-variants.{Id}
 use Rattle.table.proofs.Ranges.{within-front}
-use Rattle.table.proofs.Entries.{path-in}
+use Rattle.table.proofs.Entries.{path-of}
 use Rattle.table.proofs.Judging.{own-fails, own-next, own-global, own-end}
 use Rattle.table.proofs.check.own_paths.Statement.{statement}
 use Rattle.table.proofs.check.own_paths.Tie as tie
@@ -34,7 +34,7 @@ compared c =
     let a = c .before .before .before .before .before .before .before .before .before .before .before .args in
     let L = within (partsOf (a .parts .now)) (a .path) in
     let h : c .before .before .before .before .before .before .before .loop .i ≤ length L = omega arith in
-    rw (within-front (partsOf (a .parts .now)) (a .path) (c .before .before .before .before .before .before .before .loop .i) h, ← (path-in (a .entries .now) (a .parts .now) (c .before .before .before .id .given .0 .0)), ← c .before .get-path-by-id .ensures)
+    rw (within-front (partsOf (a .parts .now)) (a .path) (c .before .before .before .before .before .before .before .loop .i) h, ← (path-of (a .entries .now) (a .parts .now) _ (c .before .get-path-by-id .ensures)))
     (sym (c .same-path .ensures))
 
 path-length-requires : tie.Need-path-length-requires Inv-loop μ-loop

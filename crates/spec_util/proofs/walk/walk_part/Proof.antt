@@ -1,0 +1,59 @@
+-- `spec_util::walk::walk_part`: by the part at the marker. Assumes nothing.
+use borrow.Author.Tests.{eq-eqb, ne-eqb, le-leb, lt-leb}
+use Rattle.spec_util.specs.Walk.{walkPart, walkAt}
+use borrow.Author.Needs.{needs}
+use Rattle.spec_util.proofs.walk.walk_part.Statement.{statement}
+use Rattle.spec_util.proofs.walk.walk_part.Tie as tie
+
+path-length-requires : tie.Need-path-length-requires
+path-length-requires c κs = search needs
+
+returns : tie.Need-returns
+unfolding walkPart
+returns c = rw (← c .before .path-length .ensures, le-leb _ _ (c .if1 .taken))
+
+path-part-requires : tie.Need-path-part-requires
+path-part-requires c κs = search needs
+
+enum-known-id : tie.Need-enum-known-id
+enum-known-id c = search needs
+
+add-t14 : tie.Need-add-t14
+add-t14 c = search needs
+
+returns-2 : tie.Need-returns-2
+unfolding walkPart walkAt
+returns-2 c = rw (← c .before .before .before .before .before .before .path-length .ensures, lt-leb _ _ (c .before .before .before .before .before .if1 .left), ← c .before .before .before .before .path-part .ensures, c .before .before .id .given .1, eq-eqb _ _ (c .if2 .taken))
+
+enum-known-min : tie.Need-enum-known-min
+enum-known-min c = search needs
+
+add-walk-global : tie.Need-add-walk-global
+add-walk-global c = search needs
+
+walk-global-requires : tie.Need-walk-global-requires
+walk-global-requires c κs = search needs
+
+returns-3 : tie.Need-returns-3
+unfolding walkPart walkAt
+returns-3 c = rw (← c .before .before .before .before .before .before .path-length .ensures, lt-leb _ _ (c .before .before .before .before .before .if1 .left), ← c .before .before .before .before .path-part .ensures, c .before .before .id .given .1, ne-eqb _ _ (c .if2 .left))
+
+returns-4 : tie.Need-returns-4
+unfolding walkPart walkAt
+returns-4 c = rw (← c .before .before .before .before .before .before .path-length .ensures, lt-leb _ _ (c .before .before .before .before .before .if1 .left), ← c .before .before .before .before .path-part .ensures, c .before .before .min .given .1) (c .walk-global .ensures)
+
+pub walk-part-spec : {M : Type 1} → statement M
+walk-part-spec =
+    tie.close
+    (tie.spec
+    path-length-requires
+    returns
+    path-part-requires
+    enum-known-id
+    add-t14
+    returns-2
+    enum-known-min
+    add-walk-global
+    walk-global-requires
+    returns-3
+    returns-4)

@@ -1,0 +1,43 @@
+-- Document 01, "One call of the decoder": "An ID ends a master when it is in the master's path, has an equal path, or is a typed root."
+use Prim.Native.Nat.{ℕ}
+use mathlib.Core.Bool.{Bool, true, false, _&&_, _||_}
+use mathlib.Core.List.{List}
+use lib.Dec.{eqb}
+use lib.ListN.{length}
+use Rattle.table.specs.Lists.{any}
+use Rattle.table.specs.Table.{Entry, dataTypeOf, pathOf, samePath}
+use Rattle.table.specs.declared.types.TagDataType.{TagDataType}
+use Rattle.table.specs.declared.types.TagDataType.the-variants.{Untyped, Master, UnsignedInt, Integer, Utf8, Binary, Float}
+use Rattle.table.specs.declared.types.PathPart.{PathPart}
+use Rattle.table.specs.declared.types.PathPart.the-variants.{Id, Global}
+
+unfoldable pub isIdOf : ℕ → PathPart → Bool
+isIdOf id (Id x) = eqb x id
+isIdOf id (Global min max) = false
+
+unfoldable pub hasId : ℕ → List PathPart → Bool
+hasId id path = any (isIdOf id) path
+
+unfoldable pub isTyped : TagDataType → Bool
+isTyped Untyped = false
+isTyped Master = true
+isTyped UnsignedInt = true
+isTyped Integer = true
+isTyped Utf8 = true
+isTyped Binary = true
+isTyped Float = true
+
+-- "it is in the master's path"
+unfoldable pub isParent : List Entry → ℕ → ℕ → Bool
+isParent t master id = hasId id (pathOf t master)
+
+-- "has an equal path"
+unfoldable pub isSibling : List Entry → ℕ → ℕ → Bool
+isSibling t master id = samePath (pathOf t master) (pathOf t id)
+
+-- "is a typed root"
+unfoldable pub isTypedRoot : List Entry → ℕ → Bool
+isTypedRoot t id = isTyped (dataTypeOf t id) && eqb (length (pathOf t id)) 0
+
+unfoldable pub isEndedBy : List Entry → ℕ → ℕ → Bool
+isEndedBy t master id = isParent t master id || isSibling t master id || isTypedRoot t id
