@@ -1,5 +1,5 @@
--- Section 4's table by the first octet: the row whose first range has it decides, and where no row has it there is no character. Assumes nothing.
-use Prim.Native.Nat.{ℕ, zero, suc, _+_, _-_, _≤_, _<_}
+-- Section 4's table by a first octet: the row that begins with it decides, and where no row does there is no character. Assumes nothing.
+use Prim.Native.Nat.{ℕ, suc, _+_, _≤_, _<_}
 use mathlib.Core.Path.{_≡_, refl, sym, ap, _∙_}
 use mathlib.Core.Bool.{Bool, true, false, cond, _&&_, _||_, false≢true, and-eq-true-iff}
 use mathlib.Core.List.{List, [], _∷_, _++_, append-nil}
@@ -9,7 +9,8 @@ use borrow.Author.Tests.{ltb-true}
 use lib.Dec.{ltb}
 use lib.ListN.{length, getD, take, drop}
 use lib.Seq.{drop-cons}
-use Rattle.utf8.specs.Rfc3629.{Range, within, fits, rows, firstFit, charLength, tail, following}
+use Rattle.utf8.specs.Rfc3629.{Range, within, fits, rows, firstFit, charLength, tail}
+use Rattle.utf8.specs.Helpers.{following}
 use Rattle.utf8.proofs.Fits.{inside, below, above, bounds, length-following}
 
 -- no row begins with an octet of the range
@@ -18,7 +19,7 @@ clear f [] = true
 clear f ([] ∷ t) = false
 clear f ((g ∷ gs) ∷ t) = (ltb (g .1) (f .0) || ltb (f .1) (g .0)) && clear f t
 
--- two ranges apart
+-- an octet of one range is none of a range apart from it
 apart : (f g : Range) (b : ℕ) → (ltb (g .1) (f .0) || ltb (f .1) (g .0)) ≡ true → within f b ≡ true → within g b ≡ false
 apart f g b e w = go (bounds f b w) (ltb (g .1) (f .0)) refl e
   where
@@ -27,7 +28,7 @@ apart f g b e w = go (bounds f b w) (ltb (g .1) (f .0)) refl e
     go h false l e = below g b (omega (arith, ltb-true (f .1) (g .0) e))
 
 module _ (f : Range) (b : ℕ) (s : List ℕ) (w : within f b ≡ true) where
-  pub skip : (p t : List (List Range)) → clear f p ≡ true → firstFit (p ++ t) (b ∷ s) ≡ firstFit t (b ∷ s)
+  skip : (p t : List (List Range)) → clear f p ≡ true → firstFit (p ++ t) (b ∷ s) ≡ firstFit t (b ∷ s)
   unfolding firstFit fits
   skip [] t e = refl
   skip ([] ∷ p) t e = absurd (false≢true e)
@@ -35,16 +36,16 @@ module _ (f : Range) (b : ℕ) (s : List ℕ) (w : within f b ≡ true) where
       let h = and-eq-true-iff (ltb (g .1) (f .0) || ltb (f .1) (g .0)) (clear f p) .0 e in
       rw (apart f g b (h .0) w) (skip p t (h .1))
 
-  pub none : (t : List (List Range)) → clear f t ≡ true → firstFit t (b ∷ s) ≡ 0
+  none : (t : List (List Range)) → clear f t ≡ true → firstFit t (b ∷ s) ≡ 0
   unfolding firstFit
   none t e = ap (λ (x : List (List Range)). firstFit x (b ∷ s)) (sym (append-nil t)) ∙ skip t [] e
 
-  pub row : (p t : List (List Range)) (rs : List Range) → clear f p ≡ true → clear f t ≡ true
+  row : (p t : List (List Range)) (rs : List Range) → clear f p ≡ true → clear f t ≡ true
       → firstFit (p ++ (f ∷ rs) ∷ t) (b ∷ s) ≡ cond (fits rs s) (suc (length rs)) 0
   unfolding firstFit fits
   row p t rs a z = skip p ((f ∷ rs) ∷ t) a ∙ rw (w, none t z)
 
--- by the octet at i
+-- the octet at i lies in the range f
 module _ (s : List ℕ) (i : ℕ) (here : i < length s) (f : Range) (low : f .0 ≤ getD s i 0) (high : getD s i 0 ≤ f .1) where
   has : within f (getD s i 0) ≡ true
   has = inside f (getD s i 0) low high

@@ -1,30 +1,23 @@
--- `isText`, one character at a time. Assumes nothing.
+-- `isText` goes by characters: where none stands in front there is no text, else the text goes on after it (`Passed`, by index). Assumes nothing.
 use Prim.Native.Nat.{ℕ, zero, suc, _+_, _-_, _≤_, _<_}
 use mathlib.Core.Path.{_≡_, refl, sym, ap, _∙_}
 use mathlib.Core.Bool.{Bool, true, false, cond}
-use mathlib.Core.List.{List, [], _∷_, _++_}
+use mathlib.Core.List.{List, [], _∷_}
 use native.Mathlib.Omega.{arith}
 use native.Mathlib.Nat.{add-zero}
 use borrow.Author.Tests.{lt-ltb}
 use lib.ListN.{length, getD, drop, length-drop}
-use lib.Seq.{drop-cons, drop-drop}
-use Rattle.utf8.specs.Rfc3629.{Range, fits, rows, firstFit, charLength, textAfter, isText, Passed}
+use lib.Seq.{drop-drop}
+use Rattle.utf8.specs.Rfc3629.{Range, fits, rows, firstFit, charLength, textAfter, isText}
+use Rattle.utf8.specs.Helpers.{Passed}
 use Rattle.utf8.proofs.Fits.{fits-within}
 use Rattle.utf8.proofs.Table.{ascii-char}
 
-pub after-drop : (k : ℕ) (s : List ℕ) → k ≤ length s → textAfter k s ≡ isText (drop k s)
+after-drop : (k : ℕ) (s : List ℕ) → k ≤ length s → textAfter k s ≡ isText (drop k s)
 unfolding textAfter
 after-drop zero s h = refl
 after-drop (suc k) [] h = absurd (omega arith)
 after-drop (suc k) (b ∷ s) h = after-drop k s (omega arith)
-
--- where no character stands in front
-pub stop : (s : List ℕ) (i : ℕ) → i < length s → charLength (drop i s) ≡ 0 → isText (drop i s) ≡ false
-unfolding textAfter
-stop s i here e =
-    let c = drop-cons s i 0 here in
-    let e' : charLength (getD s i 0 ∷ drop (suc i) s) ≡ 0 = rw c at e in
-    rw (c, e')
 
 fit-within : (t : List (List Range)) (s : List ℕ) → firstFit t s ≤ length s
 unfolding firstFit
@@ -35,29 +28,35 @@ fit-within (r ∷ t) s = go (fits r s) refl (fit-within t s)
     go true e h = rw e (fits-within r s e)
     go false e h = rw e h
 
+-- where no character stands in front
+pub stop : (s : List ℕ) → 0 < length s → charLength s ≡ 0 → isText s ≡ false
+unfolding textAfter
+stop [] some e = absurd (omega arith)
+stop (b ∷ s) some e = rw e
+
+-- a character in front is passed over
+pub pass : (s : List ℕ) (n : ℕ) → charLength s ≡ n → 0 < n → isText s ≡ isText (drop n s)
+unfolding textAfter
+pass s zero e some = absurd (omega arith)
+pass [] (suc k) e some = absurd (omega (arith, fit-within rows []))
+pass (b ∷ s) (suc k) e some =
+    let o : suc k - 1 ≡ k = omega arith in
+    rw (e, lt-ltb 0 (suc k) (omega arith), o) (after-drop k s (omega (arith, fit-within rows (b ∷ s))))
+
+-- ---- by index
+
 pub passed-none : (s : List ℕ) (i : ℕ) → i ≤ length s → Passed s i i
 passed-none s i h = record { forward = omega arith; inside = h; same = refl }
 
 pub passed-more : {s : List ℕ} {i j k : ℕ} → Passed s i j → Passed s j k → Passed s i k
 passed-more p q = record { forward = omega arith; inside = q .inside; same = q .same ∙ p .same }
 
--- a character at i is passed over
 pub passed-char : (s : List ℕ) (i n : ℕ) → i < length s → charLength (drop i s) ≡ n → 0 < n → Passed s i (i + n)
-unfolding textAfter
-passed-char s i zero here e some = absurd (omega arith)
-passed-char s i (suc k) here e some =
-    let c = drop-cons s i 0 here in
-    let e' : charLength (getD s i 0 ∷ drop (suc i) s) ≡ suc k = rw c at e in
-    let l : suc k ≤ length (drop i s) = rw (← e) (fit-within rows (drop i s)) in
-    let l' : k ≤ length (drop (suc i) s) = simp length-drop (omega (arith, length-drop i s)) in
-    let o : suc k - 1 ≡ k = omega arith in
-    let a : suc i + k ≡ i + suc k = omega arith in
-    let d : drop k (drop (suc i) s) ≡ drop (i + suc k) s = drop-drop k (suc i) s ∙ ap (λ (x : ℕ). drop x s) a in
-    record {
-      forward = omega arith;
-      inside = omega (arith, length-drop i s);
-      same = sym (rw (c, e', lt-ltb 0 (suc k) (omega arith), o) (after-drop k (drop (suc i) s) l' ∙ ap isText d));
-    }
+passed-char s i n here e some = record {
+  forward = omega arith;
+  inside = omega (arith, fit-within rows (drop i s), length-drop i s);
+  same = sym (pass (drop i s) n e some ∙ ap isText (drop-drop n i s));
+}
 
 -- octets of UTF8-1 are characters
 pub passed-ascii : (s : List ℕ) (i n : ℕ) → i + n ≤ length s → ((k : ℕ) → k < n → getD s (i + k) 0 < 0x80) → Passed s i (i + n)

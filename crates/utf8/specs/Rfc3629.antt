@@ -1,11 +1,11 @@
--- UTF-8: RFC 3629. What a text is by section 3, and the same by section 4's octets, which computes.
+-- UTF-8, RFC 3629: what a text is by section 3, as a relation, and by section 4, as a test that computes.
 use Prim.Native.Nat.{ℕ, zero, suc, _+_, _-_, _*_, _/_, _%_, _^_, _≤_, _<_}
 use mathlib.Core.Bool.{Bool, true, false, cond, _&&_}
 use mathlib.Core.Logic.{_⊎_}
 use mathlib.Core.Path.{_≡_}
 use mathlib.Core.List.{List, [], _∷_, map, flatten}
 use lib.Dec.{leb, ltb}
-use lib.ListN.{length, drop}
+use lib.ListN.{length}
 
 -- ---- section 3: characters and their octets
 
@@ -14,6 +14,7 @@ pub record CodePoint (c : ℕ) : Type 0 where
   pub at-most : c ≤ 0x10FFFF
   pub no-surrogate : (c < 0xD800) ⊎ (0xDFFF < c)
 
+-- every number is a code point
 abbrev pub CodePoints : List ℕ → Type 0
 CodePoints [] = Unit
 CodePoints (c ∷ cs) = CodePoint c × CodePoints cs
@@ -48,6 +49,7 @@ pub record IsText (s : List ℕ) : Type 0 where
 abbrev pub Range : Type 0
 Range = ℕ × ℕ
 
+-- the octet lies in the range
 abbrev pub within : Range → ℕ → Bool
 within r b = leb (r .0) b && leb b (r .1)
 
@@ -87,7 +89,7 @@ firstFit (r ∷ rs) s = cond (fits r s) (length r) (firstFit rs s)
 abbrev pub charLength : List ℕ → ℕ
 charLength s = firstFit rows s
 
--- a text after the first k octets
+-- k octets, and then a text
 unfoldable pub textAfter : ℕ → List ℕ → Bool
 textAfter zero [] = true
 textAfter (suc k) [] = false
@@ -97,16 +99,3 @@ textAfter (suc k) (b ∷ s) = textAfter k s
 -- UTF8-octets = *( UTF8-char )
 abbrev pub isText : List ℕ → Bool
 isText s = textAfter 0 s
-
--- ---- the ranges that the routines hand on
-
--- n octets after a character's first, the first of them of the range given
-unfoldable pub following : ℕ → Range → List Range
-following zero r = []
-following (suc n) r = r ∷ following n tail
-
--- from i to r there is nothing but whole characters
-pub record Passed (s : List ℕ) (i r : ℕ) : Type 0 where
-  pub forward : i ≤ r
-  pub inside : r ≤ length s
-  pub same : isText (drop r s) ≡ isText (drop i s)

@@ -1,12 +1,13 @@
-// Text: the check in place of String::from_utf8, by RFC 3629. One pass, no table; what is right stands in specs/.
+// The check in place of String::from_utf8: whether some bytes are a text in UTF-8, RFC 3629. One pass, no table; what a text is stands in specs/.
 
 ghost use mathlib.Core.Path.{_≡_};
 ghost use mathlib.Core.Bool.{true, cond};
 ghost use Prim.Native.Nat.{ℕ, _+_, _≤_, _<_};
 ghost use lib.ListN.{length, getD, drop};
-ghost use Rattle.utf8.specs.Rfc3629.{isText, charLength, fits, following, Passed};
+ghost use Rattle.utf8.specs.Rfc3629.{isText, charLength, fits};
+ghost use Rattle.utf8.specs.Helpers.{following, Passed};
 
-// An octet that is at least as great as both.
+// An octet no less than either, so that it is below 0x80 only where both are.
 fn either(a: u8, b: u8) -> u8
     ensures { λ r. ⌜ (a ≤ r) × (b ≤ r) ⌝ }
 {
@@ -27,8 +28,8 @@ fn all_ascii(s: &[u8], i: usize, n: usize) -> bool
     all < 0x80
 }
 
-// Past the ASCII octets from i on, n at a time.
-fn past_ascii(s: &[u8], i: usize, n: usize) -> usize
+// Past the ASCII octets from i on, n at a time, as far as that goes.
+fn past_runs(s: &[u8], i: usize, n: usize) -> usize
     requires { ⌜ (i ≤ length (now s)) × (0 < n) ⌝ }
     ensures { λ r. ⌜ Passed (now (s .entry)) i r ⌝ }
 {
@@ -42,27 +43,33 @@ fn past_ascii(s: &[u8], i: usize, n: usize) -> usize
     at
 }
 
-// The length of a character whose first octet, at i, has n octets after it, the first of them from low to high; 0 where they do not follow.
-fn followed(s: &[u8], i: usize, n: usize, low: u8, high: u8) -> usize
+// Past the ASCII octets from i on: 64 at a time, then 8, then one.
+fn past_ascii(s: &[u8], i: usize) -> usize
+    requires { ⌜ i ≤ length (now s) ⌝ }
+    ensures { λ r. ⌜ Passed (now (s .entry)) i r ⌝ }
+{
+    past_runs(s, past_runs(s, past_runs(s, i, 64), 8), 1)
+}
+
+// The length of a character whose first octet, at i, has n octets after it, the next one from low to high; 0 where they do not follow.
+fn followed(s: &[u8], i: usize, n: usize, mut low: u8, mut high: u8) -> usize
     requires { ⌜ (i < length (now s)) × (n ≤ 3) ⌝ }
     ensures { λ r. ⌜ r ≡ cond (fits (following n (low, high)) (drop (i + 1) (now (s .entry)))) (n + 1) 0 ⌝ }
 {
     if s.len() - i <= n {
         return 0;
     }
-    let mut l = low;
-    let mut h = high;
     let mut k: usize = 1;
     while k <= n {
-        let b = s[i + k];
-        if b < l {
+        let next = s[i + k];
+        if next < low {
             return 0;
         }
-        if h < b {
+        if high < next {
             return 0;
         }
-        l = 0x80;
-        h = 0xBF;
+        low = 0x80;
+        high = 0xBF;
         k += 1;
     }
     n + 1
@@ -107,13 +114,14 @@ fn char_length(s: &[u8], i: usize) -> usize
     0
 }
 
+// Whether s is a text.
 pub fn is_utf8(s: &[u8]) -> bool
     ensures { λ r. ⌜ r ≡ isText (now (s .entry)) ⌝ }
 {
     let mut i: usize = 0;
     while i < s.len() {
         if s[i] < 0x80 {
-            i = past_ascii(s, past_ascii(s, i + 1, 64), 8);
+            i = past_ascii(s, i + 1);
         } else {
             let n = char_length(s, i);
             if n == 0 {

@@ -38,7 +38,7 @@ loop-again c =
     (omega arith, below-more _ _ (λ j h. omega (arith, l .inv .1 j h)) (omega arith))
 
 returns : tie.Need-returns Inv-loop μ-loop
-returns c = λ e k h. omega (arith, c .before .loop .inv .1 k (omega arith), ltb-true (c .before .loop .all) 0x80 e)
+returns c = λ e k h. omega (arith, ltb-true, c .before .loop .inv .1 k (omega arith))
 
 pub all-ascii-spec : {M : Type 1} → statement M
 all-ascii-spec =

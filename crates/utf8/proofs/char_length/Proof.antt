@@ -1,14 +1,12 @@
 -- `utf8::char_length`: each exit is a row of section 4, or lies between the rows. Assumes nothing.
-use mathlib.Core.Path.{_≡_, refl, sym, _∙_}
+use mathlib.Core.Path.{refl, sym, _∙_}
 use native.Mathlib.Omega.{arith}
-use Rattle.utf8.specs.Rfc3629.{tail, rows, following}
+use Rattle.utf8.specs.Rfc3629.{tail, rows}
+use Rattle.utf8.specs.Helpers.{following}
 use Rattle.utf8.proofs.Table.{in-row, in-gap, ascii-char}
 use borrow.Author.Needs.{needs}
 use Rattle.utf8.proofs.char_length.Statement.{statement}
 use Rattle.utf8.proofs.char_length.Tie as tie
-use Rattle.utf8.proofs.char_length.Reads as reads
-use Rattle.utf8.proofs.char_length.Lts as lts
-use Rattle.utf8.proofs.followed.Reads as followed-reads
 
 shared-slice-read-first : tie.Need-shared-slice-read-first
 shared-slice-read-first c = search needs

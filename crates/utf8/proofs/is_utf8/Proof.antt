@@ -1,17 +1,14 @@
 -- `utf8::is_utf8`. The invariant: up to i there are whole characters, so what is left decides. Assumes nothing.
-use Prim.Native.Nat.{ℕ, _+_, _-_, _≤_, _<_}
-use mathlib.Core.Path.{_≡_, refl, sym, ap, _∙_}
+use Prim.Native.Nat.{_+_, _-_, _≤_}
+use mathlib.Core.Path.{sym, _∙_}
 use native.Mathlib.Omega.{arith}
-use lib.ListN.{length, drop, drop-of-length-le}
-use Rattle.utf8.specs.Rfc3629.{textAfter, isText, Passed}
+use lib.ListN.{length, drop, length-drop, drop-of-length-le}
+use Rattle.utf8.specs.Rfc3629.{textAfter}
+use Rattle.utf8.specs.Helpers.{Passed}
 use Rattle.utf8.proofs.Table.{ascii-char}
 use Rattle.utf8.proofs.Text.{stop, passed-none, passed-more, passed-char}
 use Rattle.utf8.proofs.is_utf8.Statement.{statement}
 use Rattle.utf8.proofs.is_utf8.Tie as tie
-use Rattle.utf8.proofs.is_utf8.Reads as reads
-use Rattle.utf8.proofs.is_utf8.Lts as lts
-use Rattle.utf8.proofs.char_length.Reads as char-length-reads
-use Rattle.utf8.proofs.past_ascii.Reads as past-ascii-reads
 
 abbrev Inv-loop : tie.InvT-loop
 Inv-loop s i₀ i = Passed s 0 i
@@ -31,18 +28,15 @@ add-past-ascii c = omega arith
 past-ascii-requires : tie.Need-past-ascii-requires Inv-loop μ-loop
 past-ascii-requires c κs = omega arith
 
-past-ascii-requires-2 : tie.Need-past-ascii-requires-2 Inv-loop μ-loop
-past-ascii-requires-2 c κs = omega arith
-
 loop-less : tie.Need-loop-less Inv-loop μ-loop
 loop-less c = omega arith
 
 loop-again : tie.Need-loop-again Inv-loop μ-loop
 loop-again c =
-    let s = c .before .before .before .before .before .before .before .args .s .now in
-    let l = c .before .before .before .before .before .loop in
-    let first = passed-char s (l .i) 1 (omega arith) (ascii-char s (l .i) (omega arith) (omega arith)) (omega arith) in
-    passed-more (l .inv) (passed-more first (passed-more (c .before .past-ascii .ensures) (c .past-ascii2 .ensures)))
+    let s = c .before .before .before .before .before .before .args .s .now in
+    let l = c .before .before .before .before .loop in
+    let one = passed-char s (l .i) 1 (omega arith) (ascii-char s (l .i) (omega arith) (omega arith)) (omega arith) in
+    passed-more (l .inv) (passed-more one (c .past-ascii .ensures))
 
 char-length-requires : tie.Need-char-length-requires Inv-loop μ-loop
 char-length-requires c κs = omega arith
@@ -51,10 +45,12 @@ returns : tie.Need-returns Inv-loop μ-loop
 returns c =
     let s = c .before .before .before .before .before .before .before .args .s .now in
     let l = c .before .before .before .before .before .loop in
-    sym (stop s (l .i) (omega arith) (sym (c .before .char-length .ensures) ∙ c .if2 .taken)) ∙ l .inv .same
+    sym (stop (drop (l .i) s) (omega (arith, length-drop (l .i) s)) (sym (c .before .char-length .ensures) ∙ c .if2 .taken)) ∙ l .inv .same
 
-next : (c : tie.Else2 Inv-loop μ-loop)
-    → Passed (c .before .before .before .before .before .before .before .args .s .now) (c .before .before .before .before .before .loop .i) (c .before .before .before .before .before .loop .i + c .before .char-length .result)
+-- the character that was found
+next : (c : tie.Else2 Inv-loop μ-loop) →
+    let at : tie.At-loop Inv-loop μ-loop = c .before .before .before .before .before in
+    Passed (at .before .before .args .s .now) (at .loop .i) (at .loop .i + c .before .char-length .result)
 next c = passed-char _ _ _ (omega arith) (sym (c .before .char-length .ensures)) (omega arith)
 
 add-i : tie.Need-add-i Inv-loop μ-loop
@@ -84,7 +80,6 @@ is-utf8-spec =
     shared-slice-read-if1
     add-past-ascii
     past-ascii-requires
-    past-ascii-requires-2
     loop-less
     loop-again
     char-length-requires

@@ -1,59 +1,21 @@
--- `utf8::past_ascii`. The invariant: from i to `at` there are whole characters. Assumes nothing.
-use Prim.Native.Nat.{_-_}
-use native.Mathlib.Omega.{arith}
-use borrow.Author.Tests.{not-false}
-use lib.ListN.{length}
-use Rattle.utf8.specs.Rfc3629.{Passed}
-use Rattle.utf8.proofs.Text.{passed-none, passed-more, passed-ascii}
+-- `utf8::past_ascii`: three times past whole characters. Assumes nothing.
+use borrow.Author.Needs.{needs}
+use Rattle.utf8.proofs.Text.{passed-more}
 use Rattle.utf8.proofs.past_ascii.Statement.{statement}
 use Rattle.utf8.proofs.past_ascii.Tie as tie
-use Rattle.utf8.proofs.past_ascii.Reads as reads
-use Rattle.utf8.proofs.past_ascii.Lts as lts
-use Rattle.utf8.proofs.all_ascii.Reads as all-ascii-reads
 
-abbrev Inv-loop : tie.InvT-loop
-Inv-loop s i n at₀ at = Passed s i at
+past-runs-requires : tie.Need-past-runs-requires
+past-runs-requires c κs = search needs
 
-abbrev μ-loop : tie.MeasureT-loop
-μ-loop s i n at₀ at = length s - at
+past-runs-requires-2 : tie.Need-past-runs-requires-2
+past-runs-requires-2 c κs = search needs
 
-loop-holds : tie.Need-loop-holds Inv-loop μ-loop
-loop-holds c = passed-none _ _ (omega arith)
+past-runs-requires-3 : tie.Need-past-runs-requires-3
+past-runs-requires-3 c κs = search needs
 
-sub-loop : tie.Need-sub-loop Inv-loop μ-loop
-sub-loop c = omega arith
-
-all-ascii-requires : tie.Need-all-ascii-requires Inv-loop μ-loop
-all-ascii-requires c κs = omega arith
-
-returns : tie.Need-returns Inv-loop μ-loop
-returns c = c .before .before .before .loop .inv
-
-add-at : tie.Need-add-at Inv-loop μ-loop
-add-at c = omega arith
-
-loop-less : tie.Need-loop-less Inv-loop μ-loop
-loop-less c = omega arith
-
-loop-again : tie.Need-loop-again Inv-loop μ-loop
-loop-again c =
-    passed-more (c .before .before .before .loop .inv)
-    (passed-ascii _ _ _ (omega arith) (c .before .all-ascii .ensures (not-false _ (c .if1 .left))))
-
-returns-2 : tie.Need-returns-2 Inv-loop μ-loop
-returns-2 c = c .before .loop .inv
+returns : tie.Need-returns
+returns c = passed-more (c .before .before .past-runs .ensures) (passed-more (c .before .past-runs2 .ensures) (c .past-runs3 .ensures))
 
 pub past-ascii-spec : {M : Type 1} → statement M
 past-ascii-spec =
-    tie.close
-    (tie.spec
-    Inv-loop
-    μ-loop
-    loop-holds
-    sub-loop
-    all-ascii-requires
-    returns
-    add-at
-    loop-less
-    loop-again
-    returns-2)
+    tie.close (tie.spec past-runs-requires past-runs-requires-2 past-runs-requires-3 returns)
