@@ -1,0 +1,114 @@
+// `read_tag_id` and `read_header`.
+
+ghost use mathlib.Core.Path.{_≡_};
+ghost use Prim.Native.Nat.{_≤_};
+ghost use Rattle.table.specs.Table.{tableOf};
+ghost use Rattle.tag_parse.specs.Header.{idLength, readTagId, numeric, tooLong, sizeOf, sizedBy, readHeader};
+use crate::types::EBMLSize;
+use crate::types::ParseError;
+use crate::types::ReadHeader;
+use crate::types::ReadTagId;
+use crate::types::TagHeader;
+use table::lookup::look_up;
+use table::types::Spec;
+use table::types::TagDataType;
+use tools::integer::ArrToU64;
+use tools::integer::arr_to_u64;
+use tools::vint::ReadVint;
+use tools::vint::read_vint;
+
+// The length that an ID's first byte announces.
+fn id_length(first: u8) -> usize
+    ensures { λ r. ⌜ r ≡ idLength first ⌝ }
+{
+    if first == 0 {
+        return 1;
+    }
+    u8::leading_zeros(first) as usize + 1
+}
+
+pub fn read_tag_id(input: &[u8]) -> ReadTagId
+    ensures { λ r. ⌜ r ≡ readTagId (now (input .entry)) ⌝ }
+{
+    if input.len() == 0 {
+        return ReadTagId::NeedMore;
+    }
+    let length = id_length(input[0]);
+    if input.len() < length {
+        return ReadTagId::NeedMore;
+    }
+    match arr_to_u64(&input[..length]) {
+        ArrToU64::Value(id) => ReadTagId::TagId { id, length },
+        // an ID has at most 8 bytes: this does not happen
+        ArrToU64::Refused(_) => ReadTagId::NeedMore,
+    }
+}
+
+fn is_numeric(kind: TagDataType) -> bool
+    ensures { λ r. ⌜ r ≡ numeric kind ⌝ }
+{
+    match kind {
+        TagDataType::Untyped => false,
+        TagDataType::Master => false,
+        TagDataType::UnsignedInt => true,
+        TagDataType::Integer => true,
+        TagDataType::Utf8 => false,
+        TagDataType::Binary => false,
+        TagDataType::Float => true,
+    }
+}
+
+fn is_too_long(kind: TagDataType, size: u64) -> bool
+    ensures { λ r. ⌜ r ≡ tooLong kind size ⌝ }
+{
+    if 8 < size {
+        return is_numeric(kind);
+    }
+    false
+}
+
+// `EBMLSize::new`: the all-ones value of a length says that the size is unknown.
+fn size_of(size: u64, length: usize) -> EBMLSize
+    requires { ⌜ length ≤ 8 ⌝ }
+    ensures { λ r. ⌜ r ≡ sizeOf size length ⌝ }
+{
+    if size == (1u64 << (7 * length)) - 1 {
+        return EBMLSize::Unknown;
+    }
+    EBMLSize::Known(size)
+}
+
+// The header of an ID and a size vint, each with its length.
+fn with_size(id: u64, spec: Spec, id_len: usize, size: u64, size_len: usize) -> ReadHeader
+    requires { ⌜ («id_len» ≤ 8) × («size_len» ≤ 8) ⌝ }
+    ensures { λ r. ⌜ r ≡ sizedBy id spec «id_len» size «size_len» ⌝ }
+{
+    let kind = spec.kind;
+    let path = spec.path;
+    if is_too_long(kind, size) {
+        return ReadHeader::Refused(ParseError::InvalidTagData);
+    }
+    ReadHeader::Header(TagHeader {
+        id,
+        kind,
+        path,
+        size: size_of(size, size_len),
+        len: id_len + size_len,
+    })
+}
+
+pub fn read_header(entries: &[u64], parts: &[u64], input: &[u8]) -> ReadHeader
+    ensures { λ r. ⌜ r ≡ readHeader (tableOf (now (entries .entry)) (now (parts .entry))) (now (input .entry)) ⌝ }
+{
+    let ReadTagId::TagId { id, length: id_len } = read_tag_id(input) else {
+        return ReadHeader::NeedMore;
+    };
+    match read_vint(&input[id_len..]) {
+        ReadVint::NeedMore => ReadHeader::NeedMore,
+        ReadVint::Refused(_) => ReadHeader::Refused(ParseError::InvalidTagData),
+        ReadVint::Vint { value, length } => {
+            let spec = look_up(entries, parts, id);
+            with_size(id, spec, id_len, value, length)
+        }
+    }
+}

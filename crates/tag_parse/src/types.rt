@@ -1,0 +1,72 @@
+// What the front of the stream holds, and how reading it answers.
+
+ghost use mathlib.Core.Path.{_≡_};
+ghost use Rattle.tag_parse.specs.Refusals.{parseNumber};
+use table::types::Path;
+use table::types::TagDataType;
+
+// The Rust's errors of these routines: `InvalidTagData` of CorruptedFileError, and the problems of CorruptedTagData.
+pub enum ParseError {
+    InvalidTagData,
+    FromUtf8Error,
+    ReadF64Mismatch,
+    ReadIntegerOverflow,
+}
+
+// The refusal's number in the interface.
+pub fn parse_number(e: ParseError) -> u64
+    ensures { λ r. ⌜ r ≡ parseNumber e ⌝ }
+{
+    match e {
+        ParseError::InvalidTagData => 14,
+        ParseError::FromUtf8Error => 20,
+        ParseError::ReadF64Mismatch => 21,
+        ParseError::ReadIntegerOverflow => 22,
+    }
+}
+
+pub enum ReadTagId {
+    NeedMore,
+    TagId { id: u64, length: usize },
+}
+
+pub enum EBMLSize {
+    Known(u64),
+    Unknown,
+}
+
+// The path comes with the type, so that one look-up serves the whole call.
+pub struct TagHeader {
+    pub id: u64,
+    pub kind: TagDataType,
+    pub path: Path,
+    pub size: EBMLSize,
+    pub len: usize,
+}
+
+pub enum ReadHeader {
+    NeedMore,
+    Refused(ParseError),
+    Header(TagHeader),
+}
+
+// From begin up to end, end not included, counted from the stream's first byte.
+pub struct Range {
+    pub begin: u64,
+    pub end: u64,
+}
+
+// The six kinds of value. A float is the 64 bits of its binary64 pattern.
+pub enum TagValue {
+    UnsignedInt(u64),
+    Integer(i64),
+    Utf8(Range),
+    Binary(Range),
+    Float(u64),
+    Raw(Range),
+}
+
+pub enum ReadData {
+    Value(TagValue),
+    Refused(ParseError),
+}
