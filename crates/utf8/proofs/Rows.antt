@@ -1,7 +1,7 @@
 -- A row of section 4 and the table of section 3 say the same: what fits a row are the encodings of the numbers from its least to its greatest,
 -- both computed from the row's ranges. One law for every row, over what `regular` tests of it. Assumes nothing.
 use Prim.Native.Nat.{ℕ, zero, suc, _+_, _-_, _*_, _/_, _%_, _^_, _≤_, _<_}
-use mathlib.Core.Path.{_≡_, refl, sym, ap, ap₂, _∙_}
+use mathlib.Core.Path.{_≡_, refl, sym, ap, _∙_}
 use mathlib.Core.Bool.{Bool, true, false, _&&_, _||_, false≢true, and-eq-true-iff}
 use mathlib.Core.Logic.{_⊎_, inl, inr, ⊎-elim}
 use mathlib.Core.List.{List, [], _∷_, _++_}
@@ -71,6 +71,21 @@ record Ends (x y v : ℕ) (rs : List Range) (s : List ℕ) : Type 0 where
   to : point ≤ greatest y rs
   octets : s ≡ tails (length rs) point ++ drop (length rs) s
 
+-- with one octet more in front
+ends-more : (x y v b : ℕ) (r : Range) (rs : List Range) (s : List ℕ) → 0x80 ≤ b → b ≤ 0xBF
+    → Ends (x * 64 + (r .0 - 0x80)) (y * 64 + (r .1 - 0x80)) (v * 64 + (b - 0x80)) rs s → Ends x y v (r ∷ rs) (b ∷ s)
+unfolding tails
+ends-more x y v b r rs s l h t =
+    let q : (v * 64 + (b - 0x80)) / 64 ≡ v = omega arith in
+    let o : 0x80 + (v * 64 + (b - 0x80)) % 64 ≡ b = omega arith in
+    record {
+      point = t .point;
+      begins = shift (t .point) (length rs) ∙ rw (t .begins) q;
+      from = t .from;
+      to = t .to;
+      octets = rw (t .begins, o) (ap {B = List ℕ} (λ z. b ∷ z) (t .octets));
+    }
+
 tails-sound : (rs : List Range) (s : List ℕ) (x y v : ℕ) → unbroken x y rs ≡ true → x ≤ v → v ≤ y → fits rs s ≡ true → Ends x y v rs s
 unfolding fits tails
 tails-sound [] s x y v u l h e = record { point = v; begins = omega arith; from = l; to = h; octets = refl }
@@ -79,16 +94,8 @@ tails-sound (r ∷ rs) (b ∷ s) x y v u l h e =
     let w = and-eq-true-iff (within r b) (fits rs s) .0 e in
     let i = bounds r b (w .0) in
     let k = unbroken-is x y r rs u in
-    let n = v * 64 + (b - 0x80) in
-    let t = tails-sound rs s (x * 64 + (r .0 - 0x80)) (y * 64 + (r .1 - 0x80)) n (k .rest) (omega arith) (omega arith) (w .1) in
-    let o : 0x80 + n % 64 ≡ b = omega arith in
-    record {
-      point = t .point;
-      begins = shift (t .point) (length rs) ∙ rw (t .begins) (omega arith);
-      from = t .from;
-      to = t .to;
-      octets = ap₂ {B = List ℕ} {C = List ℕ} (λ a z. a ∷ z) (sym (rw (t .begins) o)) (t .octets);
-    }
+    ends-more x y v b r rs s (omega arith) (omega arith)
+    (tails-sound rs s _ _ (v * 64 + (b - 0x80)) (k .rest) (omega arith) (omega arith) (w .1))
 
 -- and the last octets of a number from the least to the greatest fit
 record Fitting (x y c : ℕ) (rs : List Range) (t : List ℕ) : Type 0 where
@@ -207,6 +214,9 @@ last-most (suc zero) = omega arith
 last-most (suc (suc zero)) = omega arith
 last-most (suc (suc (suc k))) = omega arith
 
+code-in : (x y c : ℕ) → x ≤ c → c ≤ y → y ≤ 0x10FFFF → (y < 0xD800) ⊎ (0xDFFF < x) → CodePoint c
+code-in x y c l h m o = record { at-most = omega arith; no-surrogate = ⊎-elim (λ q. inl (omega arith)) (λ q. inr (omega arith)) o }
+
 -- what fits a row is the encoding of a number from the row's least to its greatest
 pub row-sound : (r : List Range) (s : List ℕ) → regular r ≡ true → fits r s ≡ true
     → (f : Front (length r) s) × (leastOf r ≤ f .point) × (f .point ≤ greatestOf r)
@@ -224,7 +234,7 @@ row-sound (f ∷ rs) (b ∷ s) g e =
     let most = last-most k in (
       record {
         point = t .point;
-        code = record { at-most = omega arith; no-surrogate = ⊎-elim (λ q. inl (omega arith)) (λ q. inr (omega arith)) (R .no-surrogate) };
+        code = code-in (leastOf (f ∷ rs)) (greatestOf (f ∷ rs)) (t .point) (t .from) (t .to) (omega arith) (R .no-surrogate);
         octets = rw (c, o) (ap {B = List ℕ} (λ z. b ∷ z) (t .octets));
         count = rw c (ap suc (length-tails k (t .point)));
       },
