@@ -7,6 +7,12 @@ pub const SIGNED_VINT_PANIC: &str = "signed vint of 8 bytes, not negative: the R
 pub const NAN_BITS: &str = "NaN with other bits";
 pub const CHECK: &str = "the table check: the Rust has none, document 01 decides";
 pub const TABLE_SHAPE: &str = "table of bad shape: the Rust has no such table";
+pub const AFTER_THE_FINISH: &str = "13, bytes after the finish: the Rust panics";
+pub const TABLE_FAULT: &str = "24, closing what is no Master: the Rust panics";
+pub const STATE: &str = "11, state: the Rust has no such limit";
+pub const LENGTH: &str = "12, position and length: the Rust has no such limit";
+pub const DEPTH: &str = "19, a 33rd master: the Rust has no such limit";
+pub const HANGS: &str = "recovery past a header that fails: the Rust never returns";
 
 pub enum Expected {
     Same,
@@ -16,12 +22,14 @@ pub enum Expected {
 /// Goes through a script call by call.
 pub struct Listing {
     table: Option<Table>,
+    position: u64,
 }
 
 impl Listing {
     pub fn new() -> Self {
         Listing {
             table: Some(Table::default()),
+            position: 0,
         }
     }
 
@@ -36,8 +44,16 @@ impl Listing {
         match fields {
             ["table", entries, parts] if rust == "ok" => self.table = Table::read(entries, parts),
             ["table", ..] if rust == "X 10" => self.table = None,
+            ["new"] => self.position = 0,
+            ["set", settings @ ..] if rust == "ok" => self.move_to(settings),
+            ["decode" | "eof" | "recover", _] => self.move_to(&rust.split(' ').collect::<Vec<&str>>()),
             _ => {}
         }
+    }
+
+    fn move_to(&mut self, words: &[&str]) {
+        let position = words.iter().find_map(|word| word.strip_prefix("p=")?.parse().ok());
+        self.position = position.unwrap_or(self.position);
     }
 
     fn listed(&self, fields: &[&str], rust: &str) -> Option<Expected> {
@@ -50,6 +66,10 @@ impl Listing {
             }
             (["check"], "NOCHECK") => Some(listed(CHECK, self.check())),
             (["ended" | "path", ..], "NOTABLE") => Some(listed(TABLE_SHAPE, "X 10".to_string())),
+            (["decode" | "eof" | "recover", _], "NOTABLE") => {
+                Some(listed(TABLE_SHAPE, format!("X 10 {}", self.position)))
+            }
+            (["decode" | "eof" | "recover", _], _) => marked(rust),
             _ => None,
         }
     }
@@ -61,6 +81,21 @@ impl Listing {
 
 fn listed(kind: &'static str, ours: String) -> Expected {
     Expected::Listed { kind, ours }
+}
+
+/// An answer of the Rust's driver that tells what ours must say.
+fn marked(rust: &str) -> Option<Expected> {
+    let words: Vec<&str> = rust.split(' ').collect();
+    let kind = match words[..] {
+        ["PANIC", "X", "13", _] => AFTER_THE_FINISH,
+        ["PANIC", "X", "24", _] => TABLE_FAULT,
+        ["LIMIT", "X", "11", _] => STATE,
+        ["LIMIT", "X", "12", _] => LENGTH,
+        ["LIMIT", "X", "19", _] => DEPTH,
+        ["HANGS", "Y" | "Q", _, _] => HANGS,
+        _ => return None,
+    };
+    Some(listed(kind, words[1..].join(" ")))
 }
 
 fn panic_of(input: &str, ours: impl Fn(u64) -> String) -> Option<Expected> {

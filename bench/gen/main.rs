@@ -1,10 +1,17 @@
 //! Usage: gen FOLDER [SEED]
 //! Writes the bench's scripts of calls into FOLDER. The same seed gives the same scripts.
 
+mod decoder;
 mod lines;
 mod numbers;
+mod payloads;
+mod player;
 mod prng;
+mod records;
 mod script;
+mod sessions;
+mod short;
+mod stream;
 mod table;
 mod tables;
 
@@ -14,6 +21,7 @@ use std::{env, io};
 const SEED: u64 = 8794;
 
 fn main() -> io::Result<()> {
+    oracle::silence_panics();
     let mut arguments = env::args().skip(1);
     let folder = PathBuf::from(arguments.next().expect("usage: gen FOLDER [SEED]"));
     let seed = arguments
@@ -21,5 +29,6 @@ fn main() -> io::Result<()> {
         .map_or(SEED, |seed| seed.parse().expect("SEED is a number"));
     lines::generate(&folder)?;
     numbers::generate(&folder, seed)?;
-    tables::generate(&folder, seed)
+    tables::generate(&folder, seed)?;
+    decoder::generate(&folder, seed)
 }

@@ -9,11 +9,17 @@ pub mod errors;
 pub mod spec_util;
 #[path = "original/specs.rs"]
 pub mod specs;
-#[path = "original/tag_decoder.rs"]
-pub mod tag_decoder;
 #[path = "original/tag_iterator_util.rs"]
 pub mod tag_iterator_util;
 #[path = "original/tag_parse.rs"]
 pub mod tag_parse;
 #[path = "original/tools.rs"]
 pub mod tools;
+
+pub mod tag_decoder {
+    include!("original/tag_decoder.rs");
+
+    pub mod record {
+        include!("record.rs");
+    }
+}

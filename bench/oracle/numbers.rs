@@ -1,9 +1,10 @@
 //! The number calls: tools.rs and, on top of its answers, the gateway's C form.
 
 use crate::fields::{bytes, hex, signed, unsigned};
+use crate::guard::guarded;
 use ebml_iterable::errors::tool::ToolError;
 use ebml_iterable::tools::{self, SignedVint, Vint};
-use std::panic::{catch_unwind, UnwindSafe};
+use std::panic::UnwindSafe;
 
 pub enum Reply {
     Vint(Number, usize),
@@ -64,7 +65,7 @@ fn reply(fields: &[&str]) -> Option<Reply> {
 }
 
 fn read_vint(input: &[u8]) -> Reply {
-    guarded(|| {
+    asked(|| {
         Ok(match tools::read_vint(input)? {
             Some((value, length)) => Reply::Vint(Number::Unsigned(value), length),
             None => Reply::NeedMore,
@@ -73,7 +74,7 @@ fn read_vint(input: &[u8]) -> Reply {
 }
 
 fn read_signed_vint(input: &[u8]) -> Reply {
-    guarded(|| {
+    asked(|| {
         Ok(match tools::read_signed_vint(input)? {
             Some((value, length)) => Reply::Vint(Number::Signed(value), length),
             None => Reply::NeedMore,
@@ -82,11 +83,11 @@ fn read_signed_vint(input: &[u8]) -> Reply {
 }
 
 fn as_vint(value: u64) -> Reply {
-    guarded(|| Ok(Reply::Written(value.as_vint()?)))
+    asked(|| Ok(Reply::Written(value.as_vint()?)))
 }
 
 fn as_vint_with_length(value: u64, width: u64) -> Reply {
-    guarded(|| {
+    asked(|| {
         Ok(Reply::Written(match width {
             1 => value.as_vint_with_length::<1>()?.to_vec(),
             2 => value.as_vint_with_length::<2>()?.to_vec(),
@@ -102,37 +103,37 @@ fn as_vint_with_length(value: u64, width: u64) -> Reply {
 }
 
 fn as_signed_vint(value: i64) -> Reply {
-    guarded(|| Ok(Reply::Written(value.as_signed_vint()?)))
+    asked(|| Ok(Reply::Written(value.as_signed_vint()?)))
 }
 
 fn as_signed_vint_with_length(value: i64, width: u64) -> Reply {
-    guarded(|| match width {
+    asked(|| match width {
         1..=8 => Ok(Reply::Written(value.as_signed_vint_with_length(width as usize)?)),
         _ => Ok(Reply::Refusal(4)),
     })
 }
 
 fn is_vint(value: u64) -> Reply {
-    guarded(|| Ok(Reply::Flag(tools::is_vint(value))))
+    asked(|| Ok(Reply::Flag(tools::is_vint(value))))
 }
 
 fn read_unsigned(payload: &[u8]) -> Reply {
-    guarded(|| Ok(Reply::Value(Number::Unsigned(tools::arr_to_u64(payload)?))))
+    asked(|| Ok(Reply::Value(Number::Unsigned(tools::arr_to_u64(payload)?))))
 }
 
 fn read_signed(payload: &[u8]) -> Reply {
-    guarded(|| Ok(Reply::Value(Number::Signed(tools::arr_to_i64(payload)?))))
+    asked(|| Ok(Reply::Value(Number::Signed(tools::arr_to_i64(payload)?))))
 }
 
 fn read_float(payload: &[u8]) -> Reply {
-    guarded(|| Ok(Reply::Float(tools::arr_to_f64(payload)?)))
+    asked(|| Ok(Reply::Float(tools::arr_to_f64(payload)?)))
 }
 
-fn guarded(call: impl FnOnce() -> Result<Reply, ToolError> + UnwindSafe) -> Reply {
-    match catch_unwind(call) {
-        Ok(Ok(reply)) => reply,
-        Ok(Err(error)) => Reply::Refusal(refusal(&error)),
-        Err(_) => Reply::Panic,
+fn asked(call: impl FnOnce() -> Result<Reply, ToolError> + UnwindSafe) -> Reply {
+    match guarded(call) {
+        Some(Ok(reply)) => reply,
+        Some(Err(error)) => Reply::Refusal(refusal(&error)),
+        None => Reply::Panic,
     }
 }
 

@@ -1,14 +1,20 @@
 //! Answers a script of calls from the original Rust.
 
+mod decoder;
 pub mod fields;
+mod guard;
 mod numbers;
-pub mod table;
+mod table;
+
+pub use guard::silence_panics;
 
 pub const LONGEST_LINE: usize = 16_384;
 
 /// The state that calls share.
 #[derive(Default)]
-pub struct Oracle {}
+pub struct Oracle {
+    session: decoder::Session,
+}
 
 impl Oracle {
     /// The answer to one line, or nothing for an empty line or a comment.
@@ -24,15 +30,12 @@ impl Oracle {
 
     fn call(&mut self, line: &[u8]) -> Option<String> {
         let fields: Vec<&str> = std::str::from_utf8(line).ok()?.split(' ').collect();
-        numbers::answer(&fields).or_else(|| table::answer(&fields))
+        numbers::answer(&fields)
+            .or_else(|| table::answer(&fields))
+            .or_else(|| self.session.answer(&fields))
     }
 }
 
 fn bad_line() -> String {
     "BADLINE".to_string()
-}
-
-/// The driver catches what the Rust panics with, and its answers say so.
-pub fn silence_panics() {
-    std::panic::set_hook(Box::new(|_| {}));
 }
