@@ -38,10 +38,17 @@ fn texts(folder: &Path, prng: &mut Prng) -> io::Result<()> {
         let text = longer_text(prng);
         one_text(&mut player, &text)?;
     }
-    for length in [127, 128, 4_000, 4_096, 8_000] {
+    for length in [7, 8, 9, 15, 16, 17, 63, 64, 65, 71, 72, 73, 127, 128, 129, 136, 200] {
+        for place in 0..length {
+            one_text(&mut player, &plain_but_for(character(prng), place, length))?;
+            one_text(&mut player, &plain_but_at(prng.byte() | 0x80, place, length))?;
+        }
+    }
+    for length in [4_000, 4_096, 8_000] {
         for _ in 0..20 {
-            let text = longest_text(prng, length);
-            one_text(&mut player, &text)?;
+            let place = prng.index(length);
+            one_text(&mut player, &plain_but_for(character(prng), place, length))?;
+            one_text(&mut player, &plain_but_at(prng.byte() | 0x80, place, length))?;
         }
     }
     player.finish()
@@ -67,14 +74,21 @@ fn longer_text(prng: &mut Prng) -> Vec<u8> {
     text
 }
 
-fn longest_text(prng: &mut Prng, length: usize) -> Vec<u8> {
+/// ASCII with one character in it, cut where the text ends.
+fn plain_but_for(character: char, place: usize, length: usize) -> Vec<u8> {
+    let mut text = [
+        vec![b'a'; place],
+        character.to_string().into_bytes(),
+        vec![b'a'; length],
+    ]
+    .concat();
+    text.truncate(length);
+    text
+}
+
+fn plain_but_at(byte: u8, place: usize, length: usize) -> Vec<u8> {
     let mut text = vec![b'a'; length];
-    let character = character(prng).to_string().into_bytes();
-    let place = prng.index(length - character.len());
-    text[place..place + character.len()].copy_from_slice(&character);
-    if prng.below(2) == 0 {
-        text[prng.index(length)] = prng.byte();
-    }
+    text[place] = byte;
     text
 }
 
