@@ -4,3 +4,10 @@ pub mod Ranges
 pub mod Same
 pub mod Entries
 pub mod Judging
+pub mod Every
+pub mod Rules
+pub mod Shaped
+pub mod Passed
+pub mod Consequences
+pub mod Unique
+pub mod Examples
