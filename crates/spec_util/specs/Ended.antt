@@ -1,13 +1,11 @@
 -- Document 01, "One call of the decoder": "An ID ends a master when it is in the master's path, has an equal path, or is a typed root."
 use Prim.Native.Nat.{ℕ}
-use mathlib.Core.Bool.{Bool, true, false, _&&_, _||_}
+use mathlib.Core.Bool.{Bool, false, _&&_, _||_}
 use mathlib.Core.List.{List}
 use lib.Dec.{eqb}
 use lib.ListN.{length}
 use Rattle.table.specs.Lists.{any}
-use Rattle.table.specs.Table.{Entry, dataTypeOf, pathOf, samePath}
-use Rattle.table.specs.declared.types.TagDataType.{TagDataType}
-use Rattle.table.specs.declared.types.TagDataType.the-variants.{Untyped, Master, UnsignedInt, Integer, Utf8, Binary, Float}
+use Rattle.table.specs.Table.{Entry, dataTypeOf, pathOf, samePath, isTyped}
 use Rattle.table.specs.declared.types.PathPart.{PathPart}
 use Rattle.table.specs.declared.types.PathPart.the-variants.{Id, Global}
 
@@ -17,15 +15,6 @@ isIdOf id (Global min max) = false
 
 unfoldable pub hasId : ℕ → List PathPart → Bool
 hasId id path = any (isIdOf id) path
-
-unfoldable pub isTyped : TagDataType → Bool
-isTyped Untyped = false
-isTyped Master = true
-isTyped UnsignedInt = true
-isTyped Integer = true
-isTyped Utf8 = true
-isTyped Binary = true
-isTyped Float = true
 
 -- "it is in the master's path"
 unfoldable pub isParent : List Entry → ℕ → ℕ → Bool

@@ -2,5 +2,6 @@
 // Every routine answers on any words; what each answer is stands in specs/.
 
 pub mod ended;
+mod ids;
 pub mod types;
 pub mod walk;

@@ -6,7 +6,7 @@ ghost use lib.ListN.{length, take};
 ghost use Rattle.table.specs.Table.{tableOf, partsOf, within};
 ghost use Rattle.spec_util.specs.Walk.{overMax, underMin, isIdAt, walkGlobal, walkPart, countedOf, unknownAndEnded, walkMaster, minMet, walkEnd, validateTagPath};
 use crate::ended::is_ended_by;
-use crate::ended::is_id_of;
+use crate::ids::is_id_of;
 use crate::types::OpenTag;
 use crate::types::Walk;
 use table::lookup::get_path_by_id;

@@ -18,8 +18,6 @@ use Rattle.table.proofs.parts.path_part.Kinds as path-part-kinds
 use Rattle.table.proofs.parts.path_part.Reads as path-part
 use Rattle.table.proofs.parts.same_path.Kinds as same-path-kinds
 use Rattle.table.proofs.parts.same_path.Reads as same-path
-use Rattle.table.proofs.lookup.spec_at.Kinds as spec-at-kinds
-use Rattle.table.proofs.lookup.spec_at.Reads as spec-at
 use Rattle.table.proofs.lookup.look_up.Kinds as look-up-kinds
 use Rattle.table.proofs.lookup.look_up.Reads as look-up
 use Rattle.table.proofs.lookup.get_tag_data_type.Kinds as get-tag-data-type-kinds
@@ -32,8 +30,10 @@ use Rattle.table.proofs.check.rule_number.Kinds as rule-number-kinds
 use Rattle.table.proofs.check.rule_number.Reads as rule-number
 use Rattle.table.proofs.check.checked_number.Kinds as checked-number-kinds
 use Rattle.table.proofs.check.checked_number.Reads as checked-number
-use Rattle.table.proofs.check.is_master.Kinds as is-master-kinds
-use Rattle.table.proofs.check.is_master.Reads as is-master
+use Rattle.table.proofs.lookup.is_master.Kinds as is-master-kinds
+use Rattle.table.proofs.lookup.is_typed.Kinds as is-typed-kinds
+use Rattle.table.proofs.lookup.is_typed.Reads as is-typed
+use Rattle.table.proofs.lookup.is_master.Reads as is-master
 use Rattle.table.proofs.check.check_table.Kinds as check-table-kinds
 use Rattle.table.proofs.check.check_table.Reads as check-table
 
@@ -52,9 +52,6 @@ path-part-determined κs a r r' e = same
 
 pub same-path-determined : (κs : Lfts 1) (a : Dens κs same-path-kinds.ps) (r r' : Bool) → ((e : _) → same-path.Post κs a r e → same-path.Post κs a r' e → r ≡ r')
 same-path-determined κs a r r' e = same
-
-pub spec-at-determined : (κs : Lfts 2) (a : Dens κs spec-at-kinds.ps) (r r' : Spec) → ((e : _) → spec-at.Post κs a r e → spec-at.Post κs a r' e → r ≡ r')
-spec-at-determined κs a r r' e = same
 
 pub look-up-determined : (κs : Lfts 2) (a : Dens κs look-up-kinds.ps) (r r' : Spec) → ((e : _) → look-up.Post κs a r e → look-up.Post κs a r' e → r ≡ r')
 look-up-determined κs a r r' e = same
@@ -76,6 +73,9 @@ checked-number-determined κs a r r' e = same
 
 pub is-master-determined : (κs : Lfts 0) (a : Dens κs is-master-kinds.ps) (r r' : Bool) → ((e : _) → is-master.Post κs a r e → is-master.Post κs a r' e → r ≡ r')
 is-master-determined κs a r r' e = same
+
+pub is-typed-determined : (κs : Lfts 0) (a : Dens κs is-typed-kinds.ps) (r r' : Bool) → ((e : _) → is-typed.Post κs a r e → is-typed.Post κs a r' e → r ≡ r')
+is-typed-determined κs a r r' e = same
 
 pub check-table-determined : (κs : Lfts 2) (a : Dens κs check-table-kinds.ps) (r r' : Checked) → ((e : _) → check-table.Post κs a r e → check-table.Post κs a r' e → r ≡ r')
 check-table-determined κs a r r' e = same

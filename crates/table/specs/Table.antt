@@ -88,6 +88,16 @@ isMaster Utf8 = false
 isMaster Binary = false
 isMaster Float = false
 
+-- an ID that is not in the table is without a type
+unfoldable pub isTyped : TagDataType → Bool
+isTyped Untyped = false
+isTyped Master = true
+isTyped UnsignedInt = true
+isTyped Integer = true
+isTyped Utf8 = true
+isTyped Binary = true
+isTyped Float = true
+
 -- of a range, as much as lies in so many parts
 unfoldable pub clipped : ℕ → ℕ → ℕ → Path
 clipped all first count = record { first = first; count = min count (all - first) }

@@ -3,12 +3,13 @@
 ghost use mathlib.Core.Path.{_≡_};
 ghost use Prim.Native.Nat.{_/_, _≤_, _<_};
 ghost use lib.ListN.{length, getD, take};
-ghost use Rattle.table.specs.Table.{partsOf, within, tableOf, unlisted, isMaster};
+ghost use Rattle.table.specs.Table.{partsOf, within, tableOf};
 ghost use Rattle.table.specs.Check.{ruleNumber, checkedNumber, allowedId, listed, onlyIds, masterOfIds, masterOrGlobal, allMasters, ownPaths, judged, checkTable};
 ghost use mathlib.Core.List.{[]};
+use crate::entry::spec_at;
 use crate::lookup::get_path_by_id;
 use crate::lookup::get_tag_data_type;
-use crate::lookup::spec_at;
+use crate::lookup::is_master;
 use crate::parts::path_length;
 use crate::parts::path_part;
 use crate::parts::same_path;
@@ -41,16 +42,6 @@ pub fn checked_number(checked: Checked) -> u64
         Checked::BadShape => 10,
         Checked::Passed => 0,
         Checked::Fault { rule, entry: _ } => rule_number(rule),
-    }
-}
-
-pub fn is_master(kind: TagDataType) -> bool
-    ensures { λ r. ⌜ r ≡ isMaster kind ⌝ }
-{
-    if let TagDataType::Master = kind {
-        true
-    } else {
-        false
     }
 }
 

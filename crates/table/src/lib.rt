@@ -2,6 +2,7 @@
 // Every routine answers on any words; what each answer is stands in specs/.
 
 pub mod check;
+mod entry;
 pub mod lookup;
 pub mod parts;
 pub mod shape;

@@ -1,67 +1,11 @@
 // What the table says of an ID: `get_tag_data_type` and `get_path_by_id` of the Rust's TSpec. The first entry with an ID counts.
 
 ghost use mathlib.Core.Path.{_≡_};
-ghost use Prim.Native.Nat.{_/_, _<_};
-ghost use lib.ListN.{length, getD};
-ghost use Rattle.table.specs.Table.{kindOf, clipped, tableOf, unlisted, specOf, specFor, dataTypeOf, rangeOf};
+ghost use Rattle.table.specs.Table.{isMaster, isTyped, tableOf, specFor, dataTypeOf, rangeOf};
+use crate::entry::spec_at;
 use crate::types::Path;
 use crate::types::Spec;
 use crate::types::TagDataType;
-
-fn kind_of(word: u64) -> TagDataType
-    ensures { λ r. ⌜ r ≡ kindOf word ⌝ }
-{
-    match word {
-        0 => TagDataType::Master,
-        1 => TagDataType::UnsignedInt,
-        2 => TagDataType::Integer,
-        3 => TagDataType::Utf8,
-        4 => TagDataType::Binary,
-        _ => TagDataType::Float,
-    }
-}
-
-fn index(word: u64) -> usize
-    ensures { λ r. ⌜ r ≡ word ⌝ }
-{
-    word as usize
-}
-
-// The range that an entry's words name, as much of it as there is.
-fn clip(all: usize, first: usize, count: usize) -> Path
-    ensures { λ r. ⌜ r ≡ clipped all first count ⌝ }
-{
-    if all <= first {
-        return Path { first, count: 0 };
-    }
-    if all - first <= count {
-        return Path {
-            first,
-            count: all - first,
-        };
-    }
-    Path { first, count }
-}
-
-// What entry i says.
-pub fn spec_at(entries: &[u64], parts: &[u64], i: usize) -> Spec
-    ensures { λ r. ⌜ r ≡ specOf (getD (tableOf (now (entries .entry)) (now (parts .entry))) i unlisted) ⌝ }
-{
-    if entries.len() / 4 <= i {
-        let path = Path { first: 0, count: 0 };
-        return Spec {
-            kind: TagDataType::Untyped,
-            path,
-        };
-    }
-    let kind = kind_of(entries[4 * i + 1]);
-    let path = clip(
-        parts.len() / 3,
-        index(entries[4 * i + 2]),
-        index(entries[4 * i + 3]),
-    );
-    Spec { kind, path }
-}
 
 pub fn look_up(entries: &[u64], parts: &[u64], id: u64) -> Spec
     ensures { λ r. ⌜ r ≡ specFor (tableOf (now (entries .entry)) (now (parts .entry))) id ⌝ }
@@ -90,4 +34,24 @@ pub fn get_path_by_id(entries: &[u64], parts: &[u64], id: u64) -> Path
 {
     let spec = look_up(entries, parts, id);
     spec.path
+}
+
+pub fn is_master(kind: TagDataType) -> bool
+    ensures { λ r. ⌜ r ≡ isMaster kind ⌝ }
+{
+    if let TagDataType::Master = kind {
+        true
+    } else {
+        false
+    }
+}
+
+pub fn is_typed(kind: TagDataType) -> bool
+    ensures { λ r. ⌜ r ≡ isTyped kind ⌝ }
+{
+    if let TagDataType::Untyped = kind {
+        false
+    } else {
+        true
+    }
 }

@@ -5,10 +5,10 @@ use mathlib.Core.List.{List}
 use borrow.Author.Tests.{eq-eqb, ne-eqb}
 use native.Mathlib.Omega.{arith}
 use lib.ListN.{length}
-use Rattle.table.specs.Table.{Entry, partsOf, within, tableOf, dataTypeOf, pathOf}
+use Rattle.table.specs.Table.{Entry, partsOf, within, tableOf, dataTypeOf, pathOf, isTyped}
 use Rattle.table.specs.declared.types.Spec.{Spec}
 use Rattle.table.proofs.Entries.{path-of}
-use Rattle.spec_util.specs.Ended.{isTyped, isParent, isSibling, isTypedRoot, isEndedBy}
+use Rattle.spec_util.specs.Ended.{isParent, isSibling, isTypedRoot, isEndedBy}
 use borrow.Author.Needs.{needs}
 use Rattle.spec_util.proofs.ended.is_ended_by.Statement.{statement}
 use Rattle.spec_util.proofs.ended.is_ended_by.Tie as tie

@@ -1,8 +1,8 @@
--- `spec_util::ended::is_id_of`: by the part. Assumes nothing.
+-- `spec_util::ids::is_id_of`: by the part. Assumes nothing.
 use Rattle.spec_util.specs.Ended.{isIdOf}
 use borrow.Author.Needs.{needs}
-use Rattle.spec_util.proofs.ended.is_id_of.Statement.{statement}
-use Rattle.spec_util.proofs.ended.is_id_of.Tie as tie
+use Rattle.spec_util.proofs.ids.is_id_of.Statement.{statement}
+use Rattle.spec_util.proofs.ids.is_id_of.Tie as tie
 
 enum-known-part : tie.Need-enum-known-part
 enum-known-part c = search needs

@@ -1,4 +1,4 @@
--- `spec_util::ended::has_id`. The invariant: no part passed is the ID. Assumes nothing.
+-- `spec_util::ids::has_id`. The invariant: no part passed is the ID. Assumes nothing.
 use Prim.Native.Nat.{_-_, _≤_, _<_}
 use mathlib.Core.Path.{_≡_, refl, sym, _∙_}
 use mathlib.Core.Bool.{true, false}
@@ -9,8 +9,8 @@ use Rattle.table.specs.Table.{partsOf, within}
 use Rattle.table.specs.declared.types.PathPart.the-variants.{Id}
 use Rattle.table.proofs.Loops.{any-here, any-next, any-end}
 use Rattle.spec_util.specs.Ended.{isIdOf, hasId}
-use Rattle.spec_util.proofs.ended.has_id.Statement.{statement}
-use Rattle.spec_util.proofs.ended.has_id.Tie as tie
+use Rattle.spec_util.proofs.ids.has_id.Statement.{statement}
+use Rattle.spec_util.proofs.ids.has_id.Tie as tie
 
 abbrev Inv-loop : tie.InvT-loop
 Inv-loop parts id path count i₀ i = (i ≤ count) × (hasId id (within (partsOf parts) path) ≡ any (isIdOf id) (drop i (within (partsOf parts) path)))

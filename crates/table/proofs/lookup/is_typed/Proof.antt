@@ -1,4 +1,4 @@
--- `spec_util::ended::is_typed`: by the variants. Assumes nothing.
+-- `table::lookup::is_typed`: by the variants. Assumes nothing.
 use Prim.Native.Nat.{ℕ}
 use mathlib.Core.Path.{_≡_, refl}
 use mathlib.Core.Bool.{true}
@@ -6,12 +6,12 @@ use mathlib.Core.List.{List, [], _∷_}
 use borrow.Author.Needs.{needs}
 use denote.Enum.Declared.{tagOf}
 use types.Run.{OneOf, miss}
 use Rattle.table.specs.declared.types.TagDataType.{TagDataType}
 use Rattle.table.specs.declared.types.TagDataType.the-variants.{Untyped, Master, UnsignedInt, Integer, Utf8, Binary, Float}
 use Rattle.table.proofs.types.TagDataType.{the-type}
-use Rattle.spec_util.specs.Ended.{isTyped}
-use Rattle.spec_util.proofs.ended.is_typed.Statement.{statement}
-use Rattle.spec_util.proofs.ended.is_typed.Tie as tie
+use Rattle.table.specs.Table.{isTyped}
+use Rattle.table.proofs.lookup.is_typed.Statement.{statement}
+use Rattle.table.proofs.lookup.is_typed.Tie as tie
 
 -- the numbers of the variants but Untyped's
 abbrev others : List ℕ

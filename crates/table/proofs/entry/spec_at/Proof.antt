@@ -1,10 +1,10 @@
--- `table::lookup::spec_at`: four words make the entry at a place. Assumes nothing.
+-- `table::entry::spec_at`: four words make the entry at a place. Assumes nothing.
 use Rattle.table.specs.Table.{entryOf}
 use Rattle.table.proofs.Words.{length-threes}
 use Rattle.table.proofs.Entries.{table-at, table-past}
 use borrow.Author.Needs.{needs}
-use Rattle.table.proofs.lookup.spec_at.Statement.{statement}
-use Rattle.table.proofs.lookup.spec_at.Tie as tie
+use Rattle.table.proofs.entry.spec_at.Statement.{statement}
+use Rattle.table.proofs.entry.spec_at.Tie as tie
 
 returns : tie.Need-returns
 returns c = rw (table-past _ _ _ (c .if1 .taken))

@@ -1,8 +1,8 @@
--- `table::lookup::kind_of`: by the numbers of the types. Assumes nothing.
+-- `table::entry::kind_of`: by the numbers of the types. Assumes nothing.
 use borrow.Author.Tests.{ne-eqb}
 use Rattle.table.specs.Table.{kindOf}
-use Rattle.table.proofs.lookup.kind_of.Statement.{statement}
-use Rattle.table.proofs.lookup.kind_of.Tie as tie
+use Rattle.table.proofs.entry.kind_of.Statement.{statement}
+use Rattle.table.proofs.entry.kind_of.Tie as tie
 
 returns : tie.Need-returns
 unfolding kindOf

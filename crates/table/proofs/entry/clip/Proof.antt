@@ -1,12 +1,12 @@
--- `table::lookup::clip`: the least of the two counts, by the tests. Assumes nothing.
+-- `table::entry::clip`: the least of the two counts, by the tests. Assumes nothing.
 use Prim.Native.Nat.{ℕ, _-_, min}
 use mathlib.Core.Path.{_≡_, ap}
 use native.Mathlib.Omega.{arith}
 use Rattle.table.specs.Table.{clipped}
 use Rattle.table.specs.declared.types.Path.{Path}
 use borrow.Author.Needs.{needs}
-use Rattle.table.proofs.lookup.clip.Statement.{statement}
-use Rattle.table.proofs.lookup.clip.Tie as tie
+use Rattle.table.proofs.entry.clip.Statement.{statement}
+use Rattle.table.proofs.entry.clip.Tie as tie
 
 returns : tie.Need-returns
 unfolding clipped

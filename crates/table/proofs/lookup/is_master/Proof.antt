@@ -1,4 +1,4 @@
--- `table::check::is_master`: by the variants. Assumes nothing.
+-- `table::lookup::is_master`: by the variants. Assumes nothing.
 use mathlib.Core.Path.{_≡_, refl}
 use mathlib.Core.Bool.{false}
 use mathlib.Core.List.{List, [], _∷_}
@@ -10,8 +10,8 @@ use types.Run.{OneOf, miss}
 use Rattle.table.specs.Table.{isMaster}
 use Rattle.table.specs.declared.types.TagDataType.{TagDataType}
 use Rattle.table.specs.declared.types.TagDataType.the-variants.{Untyped, Master, UnsignedInt, Integer, Utf8, Binary, Float}
-use Rattle.table.proofs.check.is_master.Statement.{statement}
-use Rattle.table.proofs.check.is_master.Tie as tie
+use Rattle.table.proofs.lookup.is_master.Statement.{statement}
+use Rattle.table.proofs.lookup.is_master.Tie as tie
 
 -- the numbers of the variants but Master's
 abbrev others : List ℕ

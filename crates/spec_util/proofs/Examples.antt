@@ -1,0 +1,88 @@
+-- Worked examples over document 01's bench table and over a table with Globals, computed. Assumes nothing.
+use Prim.Native.Nat.{ℕ}
+use mathlib.Core.Path.{_≡_, refl}
+use mathlib.Core.Bool.{Bool, true, false}
+use mathlib.Core.List.{List, [], _∷_}
+use Rattle.table.specs.Lists.{any}
+use Rattle.table.specs.Table.{Entry, threes, fours, boundOf, partOf, sameBound, samePart, samePath, kindOf, clipped, entryOf, tableOf, entryFor, isTyped}
+use Rattle.table.proofs.Examples.{bench}
+use Rattle.spec_util.specs.Ended.{isIdOf, hasId, isParent, isSibling, isTypedRoot, isEndedBy}
+use Rattle.spec_util.specs.Walk.{overMax, underMin, isIdAt, walkGlobal, walkAt, walkPart, unknownAndEnded, walkMaster, minMet, walkEnd, goOn, walkFrom, validateTagPath}
+use Rattle.spec_util.specs.declared.types.OpenTag.{OpenTag}
+
+-- an open master of known or Unknown size
+abbrev open-as : Bool → ℕ → OpenTag
+open-as known id = record { id = id; known = known; size = 0; «tag_start» = 0; «data_start» = 0 }
+
+abbrev k : ℕ → OpenTag
+k id = open-as true id
+
+abbrev u : ℕ → OpenTag
+u id = open-as false id
+
+-- 81 and 82 are Masters; 83 has 1 to 2 masters and then 82 above it; 84 has at least 2; 85 at most 1
+abbrev globals : List Entry
+globals =
+    tableOf (0x81 ∷ 0 ∷ 0 ∷ 0 ∷ 0x82 ∷ 0 ∷ 0 ∷ 0 ∷ 0x83 ∷ 1 ∷ 0 ∷ 2 ∷ 0x84 ∷ 1 ∷ 2 ∷ 1 ∷ 0x85 ∷ 1 ∷ 3 ∷ 1 ∷ [])
+    (1 ∷ 2 ∷ 3 ∷ 0 ∷ 0x82 ∷ 0 ∷ 1 ∷ 3 ∷ 0 ∷ 1 ∷ 0 ∷ 2 ∷ [])
+
+pub record Ended : Type 0 where
+  pub by-parent : isEndedBy bench 0xA2 0x4E01 ≡ true
+  pub by-sibling : isEndedBy bench 0xA2 0xA3 ≡ true
+  pub by-itself : isEndedBy bench 0xA1 0xA1 ≡ true
+  pub by-root : isEndedBy bench 0xA1 0x4E01 ≡ true
+  pub not-by-child : isEndedBy bench 0x4E01 0xA1 ≡ false
+  -- D10: an ID without type has the empty path, as Session has
+  pub by-untyped : isEndedBy bench 0x4E01 0x81 ≡ true
+  pub not-by-untyped : isEndedBy bench 0xA1 0x81 ≡ false
+
+pub ended : Ended
+unfolding any threes fours boundOf partOf sameBound samePart samePath kindOf clipped entryOf tableOf entryFor isIdOf hasId isTyped isParent isSibling isTypedRoot isEndedBy
+ended = record {
+  by-parent = refl;
+  by-sibling = refl;
+  by-itself = refl;
+  by-root = refl;
+  not-by-child = refl;
+  by-untyped = refl;
+  not-by-untyped = refl;
+}
+
+pub record Walked : Type 0 where
+  pub amount-in-feed : validateTagPath bench 0xA2 (k 0x4E01 ∷ k 0xA1 ∷ []) ≡ true
+  pub amount-in-session : validateTagPath bench 0xA2 (k 0x4E01 ∷ []) ≡ false
+  pub amount-in-amount : validateTagPath bench 0xA2 (k 0x4E01 ∷ k 0xA1 ∷ k 0xA2 ∷ []) ≡ false
+  pub void-anywhere : validateTagPath bench 0xEC (k 0x4E01 ∷ k 0xA1 ∷ []) ≡ true
+  pub void-at-root : validateTagPath bench 0xEC [] ≡ true
+  -- D4: the Unknown Session is ended by a Session, so it is accepted at once, also inside Feed
+  pub session-again : validateTagPath bench 0x4E01 (u 0x4E01 ∷ k 0xA1 ∷ []) ≡ true
+  pub session-in-known : validateTagPath bench 0x4E01 (k 0x4E01 ∷ k 0xA1 ∷ []) ≡ false
+  -- the matched ID counts: 82 alone is 1, with two above it 3
+  pub matched-counts : validateTagPath globals 0x83 (k 0x82 ∷ []) ≡ true
+  pub two-and-matched : validateTagPath globals 0x83 (k 0x81 ∷ k 0x82 ∷ []) ≡ true
+  pub over-max : validateTagPath globals 0x83 (k 0x81 ∷ k 0x81 ∷ k 0x82 ∷ []) ≡ false
+  pub not-matched : validateTagPath globals 0x83 (k 0x81 ∷ []) ≡ false
+  pub at-least-2 : validateTagPath globals 0x84 (k 0x81 ∷ k 0x81 ∷ []) ≡ true
+  pub below-2 : validateTagPath globals 0x84 (k 0x81 ∷ []) ≡ false
+  pub at-most-1 : validateTagPath globals 0x85 (k 0x81 ∷ []) ≡ true
+  pub above-1 : validateTagPath globals 0x85 (k 0x81 ∷ k 0x81 ∷ []) ≡ false
+
+pub walked : Walked
+unfolding any threes fours boundOf partOf sameBound samePart samePath kindOf clipped entryOf tableOf entryFor isIdOf hasId isTyped isParent isSibling isTypedRoot isEndedBy overMax underMin isIdAt walkGlobal walkAt walkPart unknownAndEnded walkMaster minMet walkEnd goOn walkFrom validateTagPath
+walked = record {
+  amount-in-feed = refl;
+  amount-in-session = refl;
+  amount-in-amount = refl;
+  void-anywhere = refl;
+  void-at-root = refl;
+  session-again = refl;
+  session-in-known = refl;
+  matched-counts = refl;
+  two-and-matched = refl;
+  over-max = refl;
+  not-matched = refl;
+  at-least-2 = refl;
+  below-2 = refl;
+  at-most-1 = refl;
+  above-1 = refl;
+}

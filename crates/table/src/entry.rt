@@ -1,0 +1,63 @@
+// One entry of the table, read from its words. Helpers of this crate alone.
+
+ghost use mathlib.Core.Path.{_≡_};
+ghost use lib.ListN.{getD};
+ghost use Rattle.table.specs.Table.{kindOf, clipped, tableOf, unlisted, specOf};
+use crate::types::Path;
+use crate::types::Spec;
+use crate::types::TagDataType;
+
+fn kind_of(word: u64) -> TagDataType
+    ensures { λ r. ⌜ r ≡ kindOf word ⌝ }
+{
+    match word {
+        0 => TagDataType::Master,
+        1 => TagDataType::UnsignedInt,
+        2 => TagDataType::Integer,
+        3 => TagDataType::Utf8,
+        4 => TagDataType::Binary,
+        _ => TagDataType::Float,
+    }
+}
+
+fn index(word: u64) -> usize
+    ensures { λ r. ⌜ r ≡ word ⌝ }
+{
+    word as usize
+}
+
+// The range that an entry's words name, as much of it as there is.
+fn clip(all: usize, first: usize, count: usize) -> Path
+    ensures { λ r. ⌜ r ≡ clipped all first count ⌝ }
+{
+    if all <= first {
+        return Path { first, count: 0 };
+    }
+    if all - first <= count {
+        return Path {
+            first,
+            count: all - first,
+        };
+    }
+    Path { first, count }
+}
+
+// What entry i says.
+pub fn spec_at(entries: &[u64], parts: &[u64], i: usize) -> Spec
+    ensures { λ r. ⌜ r ≡ specOf (getD (tableOf (now (entries .entry)) (now (parts .entry))) i unlisted) ⌝ }
+{
+    if entries.len() / 4 <= i {
+        let path = Path { first: 0, count: 0 };
+        return Spec {
+            kind: TagDataType::Untyped,
+            path,
+        };
+    }
+    let kind = kind_of(entries[4 * i + 1]);
+    let path = clip(
+        parts.len() / 3,
+        index(entries[4 * i + 2]),
+        index(entries[4 * i + 3]),
+    );
+    Spec { kind, path }
+}
