@@ -4,8 +4,8 @@
  * nothing between calls: no heap, no global state, no lock.
  *
  * WHAT A CALLER OWES
- *  - A lent buffer is a pointer and then its length in bytes. The pointer is not null and points to that many bytes, at most
- *    PTRDIFF_MAX, which the call may read and, if it is not const, write.
+ *  - A lent buffer is a pointer and then its length in elements (bytes, or words of a table). The pointer is not null, is aligned for its
+ *    elements and points to that many of them, PTRDIFF_MAX bytes at most, which the call may read and, if it is not const, write.
  *  - A length of 0 is allowed, and then nothing is read or written through the pointer. It is still not null: lend the address of any object.
  *  - A buffer that a call writes overlaps no other buffer of the same call, and no other thread uses it during the call.
  *
@@ -78,6 +78,40 @@ uint64_t ebml_arr_to_i64(const uint8_t *arr, size_t arr_len, uint8_t *out, size_
 /* The float of 4 or 8 big-endian bytes, as the 64 bits of a double; the result is 8. Four bytes are widened exactly. A NaN keeps sign and
  * fraction and becomes quiet. Refusals: 7, 5. */
 uint64_t ebml_arr_to_f64(const uint8_t *arr, size_t arr_len, uint8_t *out, size_t out_len);
+
+/* ---- the table of elements
+ *
+ * A table is two lists of 64-bit words, which the caller lends to each call that needs one.
+ *  - Entries, 4 words each, at most 64: the ID with its marker; the type (EBML_MASTER to EBML_FLOAT); the first part of its path, counted from 0;
+ *    the number of its path's parts, at most 16.
+ *  - Parts, 3 words each: (0, ID, 0), or (1, min, max) for any number of parents in between; in min and max 0 means not given and n + 1 means n.
+ * The first entry with an ID counts. */
+enum ebml_type {
+    EBML_MASTER = 0,
+    EBML_UNSIGNED = 1,
+    EBML_INTEGER = 2,
+    EBML_UTF8 = 3,
+    EBML_BINARY = 4,
+    EBML_FLOAT = 5
+};
+
+/* The table check's refusals. */
+enum ebml_table_fault {
+    EBML_TABLE_SHAPE = 10,         /* words left over, too many entries or parts, a path outside the parts, a word out of its range */
+    EBML_RULE_NOT_A_VINT = 31,     /* the ID is not one that ebml_is_vint accepts */
+    EBML_RULE_REPEATED = 32,       /* an earlier entry has this ID */
+    EBML_RULE_GLOBAL_IN_MASTER = 33, /* a master's path holds a part (1, ..) */
+    EBML_RULE_NO_MASTER = 34,      /* an ID in the path is no master of the table */
+    EBML_RULE_OTHER_PATH = 35      /* an ID in the path, with only IDs before it, has another path of its own than those */
+};
+
+/* Of a result of ebml_check_table that is not 0: the refusal's number, and the lowest faulty entry, counted from 0 (0 for EBML_TABLE_SHAPE). */
+#define EBML_CHECK_NUMBER(result) ((int)((result) % 65536 - EBML_REFUSED))
+#define EBML_CHECK_ENTRY(result) ((size_t)((result) / 65536))
+
+/* Checks a table once, as a gateway does when it starts: 0 if it passed, else EBML_REFUSED + number + 65536 * entry, for the lowest faulty entry
+ * and the first rule that it breaks. The lengths count words. Other calls take any table of good shape. */
+uint64_t ebml_check_table(const uint64_t *entries, size_t entries_len, const uint64_t *parts, size_t parts_len);
 
 #ifdef __cplusplus
 }

@@ -12,6 +12,13 @@ use Rattle.tools.specs.Refusals.{numberOf}
 use Rattle.tools.specs.declared.errors.ToolError.{ToolError}
 use Rattle.tools.specs.declared.errors.ToolError.the-variants.{ReadVintOverflow, WriteVintOverflow, WriteSignedVintOverflow, WidthMismatch, OutputTooShort, ReadU64Overflow, ReadI64Overflow, ReadF64Mismatch}
 use Rattle.tools.specs.declared.vint.Written.{Written}
+use Rattle.table.specs.Check.{ruleNumber, checkTable}
+use Rattle.table.specs.declared.types.Checked.the-variants.{BadShape, Fault}
+use Rattle.table.specs.declared.types.Rule.{Rule}
+use Rattle.table.specs.declared.types.Rule.the-variants.{NotAVint, Repeated, GlobalInMaster, NoMaster, OtherPath}
+use Rattle.table.proofs.Entries.{length-table}
+use Rattle.table.proofs.Passed.{answered, fault-is}
+use Rattle.table.proofs.Shaped.{shaped}
 use Rattle.ebml.specs.Numbers.{codeOf, resultOf, valueOut, writtenOut}
 
 pub number-small : (e : ToolError) → numberOf e ≤ 7
@@ -39,3 +46,22 @@ handed result v out {w} {r} {o} e g = go (decLe 8 (length out))
     go (no f) =
         let h : length out < 8 = omega arith in
         rw (lt-ltb _ _ h) (record { answer = e ∙ ap (resultOf result) (rw (lt-ltb _ _ h) at (g .answer)); bytes = rw (lt-ltb _ _ h) at (g .bytes) })
+
+-- ---- the table check
+
+pub rule-small : (r : Rule) → ruleNumber r ≤ 35
+rule-small NotAVint = omega arith
+rule-small Repeated = omega arith
+rule-small GlobalInMaster = omega arith
+rule-small NoMaster = omega arith
+rule-small OtherPath = omega arith
+
+-- a fault is of one of at most 64 entries
+pub few-faults : (es ps : List ℕ) {r : Rule} {i : ℕ} → checkTable es ps ≡ Fault r i → i < 64
+few-faults es ps {r} {i} e =
+    let f = fault-is es ps e in
+    let good = answered es ps (λ b. never (sym e ∙ b)) in
+    omega (arith, f .there, length-table es ps, shaped es ps good .few-entries)
+  where
+    never : Fault r i ≡ BadShape → ⊥
+    never b = let z : _≡_ {A = ℕ} 0 1 = cc in omega arith

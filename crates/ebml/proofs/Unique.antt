@@ -5,6 +5,8 @@ use borrow.Fn.Kinds.{Dens}
 use contract.Lifetimes.{Lfts}
 use denote.Ref.{now}
 use Rattle.tools.proofs.Unique.{same, gives-same}
+use Rattle.ebml.proofs.checks.ebml_check_table.Reads as ebml-check-table
+use Rattle.ebml.proofs.checks.ebml_check_table.Kinds as ebml-check-table-kinds
 use Rattle.ebml.proofs.numbers.ebml_read_vint.Reads as ebml-read-vint
 use Rattle.ebml.proofs.numbers.ebml_read_vint.Kinds as ebml-read-vint-kinds
 use Rattle.ebml.proofs.numbers.ebml_read_signed_vint.Reads as ebml-read-signed-vint
@@ -64,3 +66,6 @@ ebml-arr-to-i64-one κs a r r' e e' p q = gives-same p q
 pub ebml-arr-to-f64-one : (κs : Lfts 2) (a : Dens κs ebml-arr-to-f64-kinds.ps) (r r' : ℕ) (e e' : _) → ebml-arr-to-f64.Post κs a r e → ebml-arr-to-f64.Post κs a r' e'
     → (r ≡ r') × (now (e .1 .0) ≡ now (e' .1 .0))
 ebml-arr-to-f64-one κs a r r' e e' p q = gives-same p q
+
+pub ebml-check-table-one : (κs : Lfts 2) (a : Dens κs ebml-check-table-kinds.ps) (r r' : ℕ) (e : _) → ebml-check-table.Post κs a r e → ebml-check-table.Post κs a r' e → r ≡ r'
+ebml-check-table-one κs a r r' e p q = same p q

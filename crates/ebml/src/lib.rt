@@ -1,4 +1,5 @@
 // The calls of the library for a program in C, on numbers and lent bytes; include/ebml.h declares them.
 
 mod answers;
+pub mod checks;
 pub mod numbers;
