@@ -68,10 +68,13 @@ fn is_too_long(kind: TagDataType, size: u64) -> bool
 }
 
 // `EBMLSize::new`: the all-ones value of a length says that the size is unknown.
-fn size_of(size: u64, length: usize) -> EBMLSize
-    requires { ⌜ length ≤ 8 ⌝ }
+pub fn size_of(size: u64, length: usize) -> EBMLSize
     ensures { λ r. ⌜ r ≡ sizeOf size length ⌝ }
 {
+    // ten bytes and more have data bits that no 64-bit number fills
+    if 9 < length {
+        return EBMLSize::Known(size);
+    }
     if size == (1u64 << (7 * length)) - 1 {
         return EBMLSize::Unknown;
     }
