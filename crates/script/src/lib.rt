@@ -1,35 +1,60 @@
 // Answers a script of calls, a line for a call.
-// A part from the start is written `[0..n]`, not `[..n]`: the check then has its length with no proof.
 
 ghost use Prim.Native.Nat.{_≤_};
 ghost use lib.ListN.{length};
+ghost use Rattle.script_table.specs.HeldIn.{HeldIn};
 
-mod answers;
-mod calls;
-mod gateway;
-mod numbers;
-mod numerals;
 pub mod run;
-mod words;
+pub mod session;
 
-use crate::words::same;
-use crate::words::word_end;
+use crate::session::Answered;
+use crate::session::Session;
+use script_text::words::word_end;
 
-// The answer to one line at the front of `out`, and how many bytes it has: none for an empty line or a comment.
-pub fn answer(line: &[u8], out: &mut [u8]) -> usize
-    ensures { λ r. ⌜ r ≤ length (now (out .entry)) ⌝ }
+fn answer_on_table(
+    line: &[u8],
+    entries: &mut [u64],
+    parts: &mut [u64],
+    session: Session,
+    out: &mut [u8],
+) -> Answered
+    requires { ⌜ HeldIn (session .table) (now entries) (now parts) ⌝ }
+    ensures { λ r. ⌜ HeldIn (r .session .table) (now (entries .entry)) (now (parts .entry)) × (r .count ≤ length (now (out .entry))) ⌝ }
+{
+    let table = session.table;
+    let a = script_table::calls::answer(line, entries, parts, table, out);
+    let mut next = session;
+    let lent = a.table;
+    next.table = lent;
+    Answered {
+        session: next,
+        count: a.count,
+    }
+}
+
+// The answer to one line at the front of `out`: none for an empty line or a comment. The words of a lent table stand in `entries` and `parts`.
+pub fn answer(
+    line: &[u8],
+    entries: &mut [u64],
+    parts: &mut [u64],
+    session: Session,
+    out: &mut [u8],
+) -> Answered
+    requires { ⌜ HeldIn (session .table) (now entries) (now parts) ⌝ }
+    ensures { λ r. ⌜ HeldIn (r .session .table) (now (entries .entry)) (now (parts .entry)) × (r .count ≤ length (now (out .entry))) ⌝ }
 {
     if line.len() == 0 {
-        return 0;
+        return Answered { session, count: 0 };
     }
     if line[0] == b'#' {
-        return 0;
+        return Answered { session, count: 0 };
     }
     let end = word_end(line, 0);
-    if end < line.len() {
-        if same(&line[0..end], b"g") {
-            return gateway::answer(&line[end + 1..], out);
-        }
+    if script_table::calls::is_call(&line[0..end]) {
+        return answer_on_table(line, entries, parts, session, out);
     }
-    numbers::answer(line, out)
+    Answered {
+        session,
+        count: script_numbers::answer(line, out),
+    }
 }

@@ -1,16 +1,21 @@
 // Reads the lines of standard input and writes their answers.
 
 ghost use mathlib.Core.Path.{_≡_};
-ghost use Prim.Native.Nat.{_≤_, _<_};
+ghost use mathlib.Core.List.{[]};
+ghost use Prim.Native.Nat.{_+_, _≤_, _<_};
 ghost use lib.ListN.{length};
+ghost use Rattle.script_table.specs.HeldIn.{HeldIn};
 ghost use Rattle.script.specs.Within.{Within};
 use crate::answer;
-use crate::answers::bad_line;
-use crate::answers::put;
-use crate::answers::put_text;
-use crate::words::find;
+use crate::session::Answered;
+use crate::session::Session;
+use crate::session::new_session;
 use libc::STDIN_FILENO;
 use libc::STDOUT_FILENO;
+use script_text::answers::bad_line;
+use script_text::answers::put;
+use script_text::answers::put_text;
+use script_text::words::find;
 
 // The most bytes of a line, without its newline.
 const MOST_LINE: usize = 16384;
@@ -20,12 +25,16 @@ const OUTPUT: usize = 65536;
 // More than any answer takes, with its newline.
 const ANSWER_ROOM: usize = 20000;
 
-// What goes from one step to the next: how many bytes of the unfinished line are held, whether it has more than a line may have, and how
-// many bytes of output are still to be written.
+// More words than a line can write: each takes two bytes, with the comma or the space before it.
+const MOST_WORDS: usize = 8192;
+
+// What goes from one step to the next: how many bytes of the unfinished line are held, whether it has more than a line may have, how
+// many bytes of output are still to be written, and what the lines so far leave.
 struct Progress {
     held: usize,
     is_over: bool,
     filled: usize,
+    session: Session,
 }
 
 struct Fed {
@@ -38,18 +47,31 @@ struct Turn {
     is_last: bool,
 }
 
-fn answer_line(line: &[u8], is_over: bool, out: &mut [u8]) -> usize
-    ensures { λ r. ⌜ r ≤ length (now (out .entry)) ⌝ }
+fn answer_line(
+    line: &[u8],
+    is_over: bool,
+    entries: &mut [u64],
+    parts: &mut [u64],
+    session: Session,
+    out: &mut [u8],
+) -> Answered
+    requires { ⌜ HeldIn (session .table) (now entries) (now parts) ⌝ }
+    ensures { λ r. ⌜ HeldIn (r .session .table) (now (entries .entry)) (now (parts .entry)) × (r .count ≤ length (now (out .entry))) ⌝ }
 {
     if is_over {
         let n = bad_line(out);
-        return put(b'\n', out, n);
+        return Answered {
+            session,
+            count: put(b'\n', out, n),
+        };
     }
-    let n = answer(line, out);
+    let mut a = answer(line, entries, parts, session, out);
+    let n = a.count;
     if n == 0 {
-        return 0;
+        return a;
     }
-    put(b'\n', out, n)
+    a.count = put(b'\n', out, n);
+    a
 }
 
 // Where the next answer goes: the output is written first where little of it is left.
@@ -64,58 +86,97 @@ fn make_room(out: &[u8], filled: usize) -> usize
     filled
 }
 
-fn finish_line(line: &[u8], out: &mut [u8], p: Progress) -> Progress
-    requires { ⌜ Within p (now line) (now out) ⌝ }
-    ensures { λ r. ⌜ (r .held ≡ 0) × (r .filled ≤ length (now (out .entry))) ⌝ }
+// A sum apart from its caller: a proof that stands far from a function's entry does not see there that a length fits a usize.
+fn end_of(out: &[u8], start: usize, count: usize) -> usize
+    requires { ⌜ start + count ≤ length (now out) ⌝ }
+    ensures { λ r. ⌜ r ≡ start + count ⌝ }
 {
-    let mut next = p;
-    let held = p.held;
-    let start = make_room(out, p.filled);
-    let n = answer_line(&line[0..held], p.is_over, &mut out[start..]);
-    next.held = 0;
-    next.is_over = false;
-    next.filled = start + n;
-    next
+    start + count
 }
 
-fn hold(part: &[u8], line: &mut [u8], p: Progress) -> Progress
-    requires { ⌜ p .held ≤ length (now line) ⌝ }
-    ensures { λ r. ⌜ (r .held ≤ length (now (line .entry))) × (r .filled ≡ p .filled) ⌝ }
+fn finish_line(
+    line: &[u8],
+    entries: &mut [u64],
+    parts: &mut [u64],
+    out: &mut [u8],
+    p: Progress,
+) -> Progress
+    requires { ⌜ Within p (now line) (now entries) (now parts) (now out) ⌝ }
+    ensures { λ r. ⌜ Within r (now (line .entry)) (now (entries .entry)) (now (parts .entry)) (now (out .entry)) ⌝ }
 {
-    let mut next = p;
     let held = p.held;
-    next.is_over = p.is_over || line.len() - held < part.len();
-    next.held = put_text(part, line, held);
-    next
+    let session = p.session;
+    let start = make_room(out, p.filled);
+    let a = answer_line(
+        &line[0..held],
+        p.is_over,
+        entries,
+        parts,
+        session,
+        &mut out[start..],
+    );
+    let next = a.session;
+    Progress {
+        held: 0,
+        is_over: false,
+        filled: end_of(out, start, a.count),
+        session: next,
+    }
+}
+
+// How many bytes are taken up to the newline at `end`, and with it; all where there is none.
+fn taken_with(part: &[u8], end: usize) -> usize
+    requires { ⌜ (0 < length (now part)) × (end ≤ length (now part)) ⌝ }
+    ensures { λ r. ⌜ (0 < r) × (r ≤ length (now (part .entry))) ⌝ }
+{
+    if end < part.len() { end + 1 } else { end }
 }
 
 // Takes the bytes up to the first newline, and it.
-fn feed_line(part: &[u8], line: &mut [u8], out: &mut [u8], p: Progress) -> Fed
-    requires { ⌜ (0 < length (now part)) × Within p (now line) (now out) ⌝ }
-    ensures { λ r. ⌜ (0 < r .taken) × (r .taken ≤ length (now (part .entry))) × Within (r .progress) (now (line .entry)) (now (out .entry)) ⌝ }
+fn feed_line(
+    part: &[u8],
+    line: &mut [u8],
+    entries: &mut [u64],
+    parts: &mut [u64],
+    out: &mut [u8],
+    p: Progress,
+) -> Fed
+    requires { ⌜ (0 < length (now part)) × Within p (now line) (now entries) (now parts) (now out) ⌝ }
+    ensures { λ r. ⌜ (0 < r .taken) × (r .taken ≤ length (now (part .entry))) × Within (r .progress) (now (line .entry)) (now (entries .entry)) (now (parts .entry)) (now (out .entry)) ⌝ }
 {
     let end = find(b'\n', part, 0);
-    let held = hold(&part[0..end], line, p);
+    let taken = taken_with(part, end);
+    let held = p.held;
+    let mut next = p;
+    next.is_over = p.is_over || line.len() - held < end;
+    next.held = put_text(&part[0..end], line, held);
     if end == part.len() {
         return Fed {
-            progress: held,
-            taken: end,
+            progress: next,
+            taken,
         };
     }
     Fed {
-        progress: finish_line(line, out, held),
-        taken: end + 1,
+        progress: finish_line(line, entries, parts, out, next),
+        taken,
     }
 }
 
-fn feed(chunk: &[u8], line: &mut [u8], out: &mut [u8], p: Progress) -> Progress
-    requires { ⌜ Within p (now line) (now out) ⌝ }
-    ensures { λ r. ⌜ Within r (now (line .entry)) (now (out .entry)) ⌝ }
+fn feed(
+    chunk: &[u8],
+    line: &mut [u8],
+    entries: &mut [u64],
+    parts: &mut [u64],
+    out: &mut [u8],
+    p: Progress,
+) -> Progress
+    requires { ⌜ Within p (now line) (now entries) (now parts) (now out) ⌝ }
+    ensures { λ r. ⌜ Within r (now (line .entry)) (now (entries .entry)) (now (parts .entry)) (now (out .entry)) ⌝ }
 {
     let mut progress = p;
     let mut at: usize = 0;
     while at < chunk.len() {
-        let fed = feed_line(&chunk[at..], line, out, progress);
+        let fed = feed_line(&chunk[at..], line, entries, parts, out, progress);
         progress = fed.progress;
         at += fed.taken;
     }
@@ -123,9 +184,15 @@ fn feed(chunk: &[u8], line: &mut [u8], out: &mut [u8], p: Progress) -> Progress
 }
 
 // One read; what it answers is written before the next.
-fn read_some(line: &mut [u8], out: &mut [u8], p: Progress) -> Turn
-    requires { ⌜ Within p (now line) (now out) ⌝ }
-    ensures { λ r. ⌜ Within (r .progress) (now (line .entry)) (now (out .entry)) ⌝ }
+fn read_some(
+    line: &mut [u8],
+    entries: &mut [u64],
+    parts: &mut [u64],
+    out: &mut [u8],
+    p: Progress,
+) -> Turn
+    requires { ⌜ Within p (now line) (now entries) (now parts) (now out) ⌝ }
+    ensures { λ r. ⌜ Within (r .progress) (now (line .entry)) (now (entries .entry)) (now (parts .entry)) (now (out .entry)) ⌝ }
 {
     let mut chunk = io::large_buffer();
     let got = libc::read(STDIN_FILENO, &mut chunk);
@@ -136,7 +203,7 @@ fn read_some(line: &mut [u8], out: &mut [u8], p: Progress) -> Turn
         };
     }
     let n = io::count(got, &chunk);
-    let mut next = feed(&chunk[0..n], line, out, p);
+    let mut next = feed(&chunk[0..n], line, entries, parts, out, p);
     let filled = next.filled;
     io::write_all(STDOUT_FILENO, &out[0..filled]);
     next.filled = 0;
@@ -146,18 +213,26 @@ fn read_some(line: &mut [u8], out: &mut [u8], p: Progress) -> Turn
     }
 }
 
-// Nothing says that an input ends, so the turns are counted down from a number that no run uses up.
-fn read_all(line: &mut [u8], out: &mut [u8]) -> Progress
-    ensures { λ r. ⌜ Within r (now (line .entry)) (now (out .entry)) ⌝ }
+fn begin() -> Progress
+    ensures { λ r. ⌜ Within r [] [] [] [] ⌝ }
 {
-    let mut progress = Progress {
+    let session = new_session();
+    Progress {
         held: 0,
         is_over: false,
         filled: 0,
-    };
+        session,
+    }
+}
+
+// Nothing says that an input ends, so the turns are counted down from a number that no run uses up.
+fn read_all(line: &mut [u8], entries: &mut [u64], parts: &mut [u64], out: &mut [u8]) -> Progress
+    ensures { λ r. ⌜ Within r (now (line .entry)) (now (entries .entry)) (now (parts .entry)) (now (out .entry)) ⌝ }
+{
+    let mut progress = begin();
     let mut turns = u64::MAX;
     while 0 < turns {
-        let t = read_some(line, out, progress);
+        let t = read_some(line, entries, parts, out, progress);
         progress = t.progress;
         if t.is_last {
             return progress;
@@ -168,15 +243,17 @@ fn read_all(line: &mut [u8], out: &mut [u8]) -> Progress
 }
 
 // The last line may lack its newline.
-fn answer_all(line: &mut [u8], out: &mut [u8]) {
-    let p = read_all(line, out);
-    let last = finish_line(line, out, p);
+fn answer_all(line: &mut [u8], entries: &mut [u64], parts: &mut [u64], out: &mut [u8]) {
+    let p = read_all(line, entries, parts, out);
+    let last = finish_line(line, entries, parts, out, p);
     let filled = last.filled;
     io::write_all(STDOUT_FILENO, &out[0..filled]);
 }
 
 pub fn answer_stdin() {
     let mut line = [0u8; MOST_LINE];
+    let mut entries = [0u64; MOST_WORDS];
+    let mut parts = [0u64; MOST_WORDS];
     let mut out = [0u8; OUTPUT];
-    answer_all(&mut line, &mut out);
+    answer_all(&mut line, &mut entries, &mut parts, &mut out);
 }

@@ -1,6 +1,6 @@
--- `script::run::feed` meets its contract. The invariant: the lent bytes keep their number, what is held and filled is within them,
--- and `at` is within the chunk. The measure is what is left of the chunk. Assumes nothing.
-use Prim.Native.Nat.{_-_, _≤_}
+-- `script::run::feed` meets its contract. The invariant: the lent bytes and words keep their number, what is held and filled is within them,
+-- `at` is within the chunk, and the chunk's length is a `usize`. The measure is what is left of the chunk. Assumes nothing.
+use Prim.Native.Nat.{_-_, _^_, _≤_, _<_}
 use lib.ListN.{length}
 use mathlib.Core.Path.{_≡_}
 use Rattle.script.specs.Within.{Within}
@@ -9,11 +9,17 @@ use Rattle.script.proofs.run.feed.Statement.{statement}
 use Rattle.script.proofs.run.feed.Tie as tie
 
 abbrev Inv-loop : tie.InvT-loop
-Inv-loop chunk line₀ out₀ progress₀ at₀ line out progress at =
-    (length line ≡ length line₀) × (length out ≡ length out₀) × Within progress line₀ out₀ × (at ≤ length chunk)
+Inv-loop chunk line₀ entries₀ parts₀ out₀ progress₀ at₀ line entries parts out progress at =
+    (length line ≡ length line₀)
+    × (length entries ≡ length entries₀)
+    × (length parts ≡ length parts₀)
+    × (length out ≡ length out₀)
+    × Within progress line₀ entries₀ parts₀ out₀
+    × (at ≤ length chunk)
+    × (length chunk < 2 ^ 64)
 
 abbrev μ-loop : tie.MeasureT-loop
-μ-loop chunk line₀ out₀ progress₀ at₀ line out progress at = length chunk - at
+μ-loop chunk line₀ entries₀ parts₀ out₀ progress₀ at₀ line entries parts out progress at = length chunk - at
 
 loop-holds : tie.Need-loop-holds Inv-loop μ-loop
 loop-holds c = search needs
@@ -45,6 +51,12 @@ same-length c = search needs
 same-length-2 : tie.Need-same-length-2 Inv-loop μ-loop
 same-length-2 c = search needs
 
+same-length-3 : tie.Need-same-length-3 Inv-loop μ-loop
+same-length-3 c = search needs
+
+same-length-4 : tie.Need-same-length-4 Inv-loop μ-loop
+same-length-4 c = search needs
+
 returns : tie.Need-returns Inv-loop μ-loop
 returns c = search needs
 
@@ -64,4 +76,6 @@ feed-spec =
     loop-again
     same-length
     same-length-2
+    same-length-3
+    same-length-4
     returns)

@@ -1,0 +1,22 @@
+// What a line leaves for the lines after it.
+
+ghost use mathlib.Core.Path.{_≡_};
+use script_table::lending::LentTable;
+use script_table::lending::empty_table;
+
+pub struct Session {
+    pub table: LentTable,
+}
+
+// The session after a line, and how many bytes the line's answer has.
+pub struct Answered {
+    pub session: Session,
+    pub count: usize,
+}
+
+pub fn new_session() -> Session
+    ensures { λ r. ⌜ (r .table .entries ≡ 0) × (r .table .parts ≡ 0) ⌝ }
+{
+    let table = empty_table();
+    Session { table }
+}

@@ -1,0 +1,72 @@
+-- `script_text::numerals::read_word` is safe and ends. Nothing has to hold from digit to digit, so the invariant says nothing.
+-- The measure is how many digits are left. Assumes nothing.
+use Prim.Native.Nat.{_-_}
+use lib.ListN.{length}
+use borrow.Author.Needs.{needs}
+use Rattle.script_text.proofs.numerals.read_word.Statement.{statement}
+use Rattle.script_text.proofs.numerals.read_word.Tie as tie
+
+abbrev Inv-loop : tie.InvT-loop
+Inv-loop word value₀ i₀ value i = Unit {0}
+
+abbrev μ-loop : tie.MeasureT-loop
+μ-loop word value₀ i₀ value i = length word - i
+
+returns : tie.Need-returns Inv-loop μ-loop
+returns c = search needs
+
+shared-slice-read-if3 : tie.Need-shared-slice-read-if3 Inv-loop μ-loop
+shared-slice-read-if3 c = search needs
+
+returns-2 : tie.Need-returns-2 Inv-loop μ-loop
+returns-2 c = search needs
+
+loop-holds : tie.Need-loop-holds Inv-loop μ-loop
+loop-holds c = search needs
+
+shared-slice-read-push-hex-digit : tie.Need-shared-slice-read-push-hex-digit Inv-loop μ-loop
+shared-slice-read-push-hex-digit c = search needs
+
+push-hex-digit-requires : tie.Need-push-hex-digit-requires Inv-loop μ-loop
+push-hex-digit-requires c κs = search needs
+
+enum-known-v : tie.Need-enum-known-v Inv-loop μ-loop
+enum-known-v c = search needs
+
+enum-told : tie.Need-enum-told Inv-loop μ-loop
+enum-told c = search needs
+
+returns-3 : tie.Need-returns-3 Inv-loop μ-loop
+returns-3 c = search needs
+
+add-i : tie.Need-add-i Inv-loop μ-loop
+add-i c = search needs
+
+loop-less : tie.Need-loop-less Inv-loop μ-loop
+loop-less c = search needs
+
+loop-again : tie.Need-loop-again Inv-loop μ-loop
+loop-again c = search needs
+
+returns-4 : tie.Need-returns-4 Inv-loop μ-loop
+returns-4 c = search needs
+
+pub read-word-spec : {M : Type 1} → statement M
+read-word-spec =
+    tie.close
+    (tie.spec
+    Inv-loop
+    μ-loop
+    returns
+    shared-slice-read-if3
+    returns-2
+    loop-holds
+    shared-slice-read-push-hex-digit
+    push-hex-digit-requires
+    enum-known-v
+    enum-told
+    returns-3
+    add-i
+    loop-less
+    loop-again
+    returns-4)
