@@ -3,3 +3,4 @@
 pub mod calls;
 mod check;
 pub mod listed;
+pub mod table;

@@ -1,6 +1,6 @@
 //! The listed differences: where the Rust's answer is not the one that ours must give.
 
-use crate::check::Table;
+use crate::table::Table;
 use oracle::fields::{bytes, hex};
 
 pub const SIGNED_VINT_PANIC: &str = "signed vint of 8 bytes, not negative: the Rust panics";
@@ -38,6 +38,11 @@ impl Listing {
         let fields: Vec<&str> = call.split(' ').collect();
         self.follow(&fields, rust);
         self.listed(&fields, rust).unwrap_or(Expected::Same)
+    }
+
+    /// The table that is lent, if its shape is good.
+    pub fn table(&self) -> Option<&Table> {
+        self.table.as_ref()
     }
 
     fn follow(&mut self, fields: &[&str], rust: &str) {

@@ -14,6 +14,8 @@ const AT_A_LIMIT: usize = 4_000;
 const ENDED_CALLS: usize = 16;
 const PATH_CALLS: usize = 24;
 const MOST_OPEN: usize = 32;
+/// As many words as a line can write beside the other list's `-`.
+const MOST_WORDS: usize = 8_188;
 const TELLING_PARTS: [Part; 10] = [
     Part::Id(0xA1),
     Part::Id(0xA2),
@@ -116,6 +118,13 @@ fn lines(folder: &Path) -> io::Result<()> {
     script.lines(LINES.iter().map(|line| line.to_string()))?;
     for depth in [MOST_OPEN - 1, MOST_OPEN, MOST_OPEN + 1] {
         script.line(format!("path 81 {}", vec!["82:k"; depth].join(",")))?;
+    }
+    for count in [MOST_WORDS, MOST_WORDS + 1] {
+        let words = vec!["0"; count].join(",");
+        script.line(format!("table - {words}"))?;
+        script.line("check")?;
+        script.line(format!("table {words} -"))?;
+        script.line("ended 81 81")?;
     }
     script.finish()
 }
