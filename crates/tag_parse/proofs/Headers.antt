@@ -1,25 +1,28 @@
 -- What `readHeader` accepts: an ID with its marker, of the shape of an RFC 8794 VINT (or the one byte 0), and right after it a size VINT; the
 -- octets taken are exactly those. And that an answer other than need-more stays when bytes are appended. Assumes nothing.
 use Prim.Native.Nat.{ℕ, zero, suc, _+_, _-_, _*_, _^_, _≤_, _<_}
-use mathlib.Core.Path.{_≡_, refl, sym, ap, _∙_}
-use mathlib.Core.Bool.{Bool, true, false}
+use mathlib.Core.Path.{_≡_, refl, sym, ap, _∙_, subst}
+use mathlib.Core.Bool.{Bool, true, false, cond}
 use mathlib.Core.List.{List, [], _∷_, _++_}
 use mathlib.Core.Logic.{_⊎_, inl, inr}
 use native.Mathlib.Omega.{arith}
 use native.Mathlib.Decide.{decLe}
+use native.Mathlib.Nat.{lt-of-lt-of-le}
+use lib.Pow.{pow-mono}
 use lib.ListN.{length, getD, take, drop, length-append, length-drop, List·getD-append}
 use lib.Seq.{take-append-le, drop-append-le, length-take-le, getD-take}
 use Rattle.tools.specs.Bytes.{Octets, beNumber}
-use Rattle.tools.specs.Vint.{IsVint, vintLength, vintValue, readVint}
+use Rattle.tools.specs.Vint.{IsVint, allOnes, vintLength, vintValue, readVint}
 use Rattle.tools.specs.declared.vint.ReadVint.{ReadVint}
 use Rattle.tools.specs.declared.vint.ReadVint.the-variants as vint
 use Rattle.tools.proofs.Cases.{read-whole}
 use Rattle.tools.proofs.Rfc8794.{Front, read-sound, read-local}
-use Rattle.table.specs.Table.{Entry, specFor}
+use Rattle.table.specs.Table.{Entry, specFor, dataTypeOf, rangeOf}
 use Rattle.table.specs.declared.types.Spec.{Spec}
 use Rattle.tag_parse.specs.Header.{idLength, readTagId, sizeOf, tooLong, headerOf, sizedBy, sized, afterId, readHeader}
 use Rattle.tag_parse.specs.declared.types.ReadTagId.{ReadTagId}
 use Rattle.tag_parse.specs.declared.types.ReadTagId.the-variants as id
+use Rattle.tag_parse.specs.declared.types.EBMLSize.the-variants as size
 use Rattle.tag_parse.specs.declared.types.TagHeader.{TagHeader}
 use Rattle.tag_parse.specs.declared.types.ReadHeader.{ReadHeader}
 use Rattle.tag_parse.specs.declared.types.ReadHeader.the-variants as header
@@ -93,6 +96,7 @@ pub record IsHeader (h : TagHeader) (s : List ℕ) : Type 0 where
   pub L : ℕ
   pub v : ℕ
   pub identifier : IsId (h .id) n (take n s)
+  pub at-most-8 : n ≤ 8
   pub vint : Front L v (drop n s)
   pub whole : h .len ≤ length s
   pub taken : h .len ≡ n + L
@@ -127,6 +131,7 @@ header-sound t s h byte e = at-id (readTagId s) refl e
           L = L;
           v = v;
           identifier = id-sound s x n byte f;
+          at-most-8 = there .most;
           vint = front;
           whole = omega (arith, front .whole, length-drop n s, there .whole);
           taken = refl;
@@ -137,6 +142,42 @@ header-sound t s h byte e = at-id (readTagId s) refl e
     at-id : (r : ReadTagId) → readTagId s ≡ r → afterId t s r ≡ header.Header h → IsHeader h s
     at-id id.NeedMore f e = let z : _≡_ {A = ℕ} 0 1 = cc in absurd (omega arith)
     at-id (id.TagId x n) f e = at-size x n f (readVint (drop n s)) refl e
+
+-- so it has at most 16 octets
+pub header-short : {h : TagHeader} {s : List ℕ} → IsHeader h s → h .len ≤ 16
+header-short i = omega (arith, i .taken, i .at-most-8, i .vint .vint .at-most-8)
+
+-- and a known size has at most 56 bits
+pub known-small : {h : TagHeader} {s : List ℕ} (m : ℕ) → IsHeader h s → h .size ≡ size.Known m → m < 2 ^ 56
+unfolding sizeOf
+known-small {h} {s} m i e = go (allOnes (i .L) (i .v)) (sym (i .size) ∙ e)
+  where
+    small : i .v < 2 ^ 56
+    small =
+        let k : 7 * i .L ≤ 56 = omega (arith, i .vint .vint .at-most-8) in
+        lt-of-lt-of-le (i .vint .vint .below) (pow-mono k)
+
+    go : (b : Bool) → cond b size.Unknown (size.Known (i .v)) ≡ size.Known m → m < 2 ^ 56
+    go true f = let z : _≡_ {A = ℕ} 0 1 = cc in absurd (omega arith)
+    go false f = let v : i .v ≡ m = cc in subst (λ (x : ℕ). x < 2 ^ 56) v small
+
+-- its type and its path are those of its ID
+pub record OfTable (t : List Entry) (h : TagHeader) : Type 0 where
+  pub kind : h .kind ≡ dataTypeOf t (h .id)
+  pub path : h .path ≡ rangeOf t (h .id)
+
+pub header-spec : (t : List Entry) (s : List ℕ) (h : TagHeader) → readHeader t s ≡ header.Header h → OfTable t h
+unfolding readHeader afterId sized
+header-spec t s h e = at-id (readTagId s) e
+  where
+    at-size : (x n : ℕ) (r : ReadVint) → sized x (specFor t x) n r ≡ header.Header h → OfTable t h
+    at-size x n vint.NeedMore e = let z : _≡_ {A = ℕ} 0 1 = cc in absurd (omega arith)
+    at-size x n (vint.Refused o) e = let z : _≡_ {A = ℕ} 0 1 = cc in absurd (omega arith)
+    at-size x n (vint.Vint v L) e = rw (← made x n v L (specFor t x) h e .0) (record { kind = refl; path = refl })
+
+    at-id : (r : ReadTagId) → afterId t s r ≡ header.Header h → OfTable t h
+    at-id id.NeedMore e = let z : _≡_ {A = ℕ} 0 1 = cc in absurd (omega arith)
+    at-id (id.TagId x n) e = at-size x n (readVint (drop n s)) e
 
 -- an answer other than need-more stays when bytes are appended
 pub header-local : (t : List Entry) (s u : List ℕ) → getD s 0 0 < 256 → (readHeader t s ≡ header.NeedMore → ⊥) → readHeader t (s ++ u) ≡ readHeader t s

@@ -1,0 +1,114 @@
+-- What the tests on the way show: of the record, of a header that was read, and of the note. Assumes nothing.
+use Prim.Native.Nat.{ℕ, zero, suc, _+_, _^_, _≤_, _<_}
+use mathlib.Core.Path.{_≡_, refl, sym, ap, _∙_, subst}
+use mathlib.Core.Bool.{Bool, true, false, cond, _&&_}
+use mathlib.Core.List.{List}
+use native.Mathlib.Omega.{arith}
+use borrow.Author.Tests.{leb-true}
+use lib.Dec.{leb}
+use lib.ListN.{length}
+use Rattle.tools.specs.Bytes.{Octets}
+use Rattle.table.specs.Shape.{goodShape}
+use Rattle.table.specs.Table.{Entry, tableOf, partsOf, within, pathOf}
+use Rattle.table.specs.declared.types.Path.{Path}
+use Rattle.table.proofs.Entries.{path-of}
+use Rattle.table.proofs.Shaped.{at-most-16}
+use Rattle.tag_parse.specs.Header.{readHeader}
+use Rattle.tag_parse.specs.declared.types.EBMLSize.{EBMLSize}
+use Rattle.tag_parse.specs.declared.types.EBMLSize.the-variants.{Known, Unknown}
+use Rattle.tag_parse.specs.declared.types.ReadHeader.the-variants as header
+use Rattle.tag_parse.specs.declared.types.TagHeader.{TagHeader}
+use Rattle.tag_parse.proofs.Headers.{header-sound, header-short, known-small, header-spec}
+use Rattle.decoder_state.specs.State.{withOpen, withNotes, settledTo}
+use Rattle.decoder_state.specs.OneCall.{goodState, refused12, refused13, andThen, step1, step6, settles, step7, noted, plain, steps8-11, steps6-11}
+use Rattle.decoder_state.specs.declared.types.Check.{Check}
+use Rattle.decoder_state.specs.declared.types.Check.the-variants.{Pass, Fail}
+use Rattle.decoder_state.specs.declared.types.DecodeError.the-variants.{TableShape, BadState, TooFar, InvalidTagId}
+use Rattle.decoder_state.specs.declared.types.Action.{Action}
+use Rattle.decoder_state.specs.declared.types.Action.the-variants.{Refuse}
+use Rattle.decoder_state.specs.declared.types.Note.{Note}
+use Rattle.decoder_state.specs.declared.types.Note.the-variants.{NoNote, Settle}
+use Rattle.decoder_state.specs.declared.types.TagDecoder.{TagDecoder}
+use Rattle.decoder_state.proofs.Good.{GoodState, good-state}
+use Rattle.decoder_element.specs.Bounds.{SmallSize}
+use Rattle.decoder_tests.specs.Parts.{knownSize}
+use Rattle.decoder_decide.specs.Good.{GoodRecord, GoodHeader}
+
+-- a property of what a test picks
+pub pick : {A : Type 0} (P : A → Type 0) (b : Bool) (x y : A) → (b ≡ true → P x) → (b ≡ false → P y) → P (cond b x y)
+pick P true x y t f = t refl
+pick P false x y t f = f refl
+
+pub cond-yes : {A : Type 0} (b : Bool) (x y : A) → b ≡ true → cond b x y ≡ x
+cond-yes b x y e = rw e
+
+pub cond-no : {A : Type 0} (b : Bool) (x y : A) → b ≡ false → cond b x y ≡ y
+cond-no b x y e = rw e
+
+-- ---- the first refusals
+
+-- what the first refusals leave
+pub record Passed1 (es ps : List ℕ) (d : TagDecoder) (n : ℕ) : Type 0 where
+  pub shape : goodShape es ps ≡ true
+  pub good : GoodState d
+  pub near : d .position + n ≤ 2 ^ 62
+
+pub passed12 : (es ps : List ℕ) (d : TagDecoder) (n : ℕ) → refused12 es ps d n ≡ Pass → Passed1 es ps d n
+unfolding refused12
+passed12 es ps d n e = go (goodShape es ps) refl (goodState d) refl (leb (d .position + n) (2 ^ 62)) refl e
+  where
+    go : (a : Bool) → goodShape es ps ≡ a → (b : Bool) → goodState d ≡ b → (c : Bool) → leb (d .position + n) (2 ^ 62) ≡ c
+        → cond a (cond b (cond c Pass (Fail TooFar)) (Fail BadState)) (Fail TableShape) ≡ Pass → Passed1 es ps d n
+    go true p true q true r e = record { shape = p; good = good-state d q; near = leb-true _ _ r }
+    go true p true q false r e = let z : _≡_ {A = ℕ} 0 1 = cc in absurd (omega arith)
+    go true p false q c r e = let z : _≡_ {A = ℕ} 0 1 = cc in absurd (omega arith)
+    go false p b q c r e = let z : _≡_ {A = ℕ} 0 1 = cc in absurd (omega arith)
+
+pub passed-step1 : (es ps : List ℕ) (d : TagDecoder) (n : ℕ) → step1 es ps d n ≡ Pass → Passed1 es ps d n
+passed-step1 es ps d n e = go (refused12 es ps d n) refl (refused13 d n) e
+  where
+    go : (a : Check) → refused12 es ps d n ≡ a → (b : Check) → andThen a b ≡ Pass → Passed1 es ps d n
+    go Pass p b e = passed12 es ps d n p
+    go (Fail x) p b e = let z : _≡_ {A = ℕ} 0 1 = cc in absurd (omega arith)
+
+pub good-record : {es ps : List ℕ} {d : TagDecoder} {n : ℕ} → Passed1 es ps d n → GoodRecord d
+good-record p = record { few-open = p .good .«open-count»; few-waiting = p .good .«waiting-count»; near = p .good .place }
+
+-- ---- a header that was read
+
+pub small-size : (z : EBMLSize) → knownSize z < 2 ^ 56 → SmallSize z
+small-size Unknown h = tt
+small-size (Known n) h = h
+
+pub good-header : (es ps s : List ℕ) (h : TagHeader) → goodShape es ps ≡ true → Octets s → readHeader (tableOf es ps) s ≡ header.Header h → GoodHeader es ps h
+good-header es ps s h shape byte e =
+    let t = tableOf es ps in
+    let i = header-sound t s h byte e in
+    let p : within (partsOf ps) (h .path) ≡ pathOf t (h .id) = path-of es ps (h .id) (header-spec t s h e .path) in
+    let q : length (within (partsOf ps) (h .path)) ≡ length (pathOf t (h .id)) = ap length p in
+    record { short = header-short i; small = small (h .size) refl; path = p; few = omega (arith, at-most-16 es ps shape (h .id)) }
+  where
+    small : (z : EBMLSize) → h .size ≡ z → knownSize z < 2 ^ 56
+    small Unknown q = omega arith
+    small (Known m) q = known-small m (header-sound (tableOf es ps) s h byte e) q
+
+-- ---- the note
+
+-- a note settles to the header's own path
+pub note-path : (ps : List ℕ) (d : TagDecoder) (h : TagHeader) (p : Path) → step7 ps d h ≡ Settle p → p ≡ h .path
+note-path ps d h p e = go (settles ps d h) e
+  where
+    go : (b : Bool) → cond b (Settle (h .path)) NoNote ≡ Settle p → p ≡ h .path
+    go true f = cc
+    go false f = let z : _≡_ {A = ℕ} 0 1 = cc in absurd (omega arith)
+
+pub settled-record : (d : TagDecoder) (ps : List ℕ) (p : Path) → GoodRecord d → length (within (partsOf ps) p) ≤ 32 → GoodRecord (settledTo d (within (partsOf ps) p))
+unfolding settledTo withOpen withNotes
+settled-record d ps p g h = record { few-open = h; few-waiting = g .few-waiting; near = g .near }
+
+-- an ID that is allowed: the note, and steps 8 to 11 on the record with it
+pub steps6-yes : (ps : List ℕ) (t : List Entry) (d : TagDecoder) (h : TagHeader) (s : List ℕ) (n : Note) (e : TagDecoder) (a : Action)
+    → step6 d h ≡ true → n ≡ step7 ps d h → e ≡ noted ps d n → a ≡ steps8-11 t e h s → record { note = n; action = a } ≡ steps6-11 ps t d h s
+unfolding steps6-11
+steps6-yes ps t d h s n e a ok p q r =
+    rw (r, q, p) (sym (cond-yes (step6 d h) (record { note = step7 ps d h; action = steps8-11 t (noted ps d (step7 ps d h)) h s }) (plain (Refuse InvalidTagId)) ok))

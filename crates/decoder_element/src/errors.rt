@@ -1,0 +1,39 @@
+// The refusals' numbers, and a payload's refusals among them.
+
+ghost use mathlib.Core.Path.{_≡_};
+ghost use Rattle.decoder_state.specs.OneCall.{errorNumber, parseError};
+use decoder_state::types::DecodeError;
+use tag_parse::types::ParseError;
+
+pub fn error_number(e: DecodeError) -> u64
+    ensures { λ r. ⌜ r ≡ errorNumber e ⌝ }
+{
+    match e {
+        DecodeError::TableShape => 10,
+        DecodeError::BadState => 11,
+        DecodeError::TooFar => 12,
+        DecodeError::AfterFinish => 13,
+        DecodeError::InvalidTagData => 14,
+        DecodeError::InvalidTagId => 15,
+        DecodeError::HierarchyError => 16,
+        DecodeError::InvalidTagSize => 17,
+        DecodeError::OversizedChildElement => 18,
+        DecodeError::TooManyOpen => 19,
+        DecodeError::FromUtf8Error => 20,
+        DecodeError::ReadF64Mismatch => 21,
+        DecodeError::ReadIntegerOverflow => 22,
+        DecodeError::UnexpectedEOF(_) => 23,
+        DecodeError::NotAMaster => 24,
+    }
+}
+
+pub fn parse_error(e: ParseError) -> DecodeError
+    ensures { λ r. ⌜ r ≡ parseError e ⌝ }
+{
+    match e {
+        ParseError::InvalidTagData => DecodeError::InvalidTagData,
+        ParseError::FromUtf8Error => DecodeError::FromUtf8Error,
+        ParseError::ReadF64Mismatch => DecodeError::ReadF64Mismatch,
+        ParseError::ReadIntegerOverflow => DecodeError::ReadIntegerOverflow,
+    }
+}

@@ -1,0 +1,5 @@
+pub mod Sums
+pub mod Lists
+pub mod Good
+pub mod Fields
+pub mod Tops

@@ -1,0 +1,6 @@
+// The tests of the steps of one call: what only reads the decoder's record. Each answers what the definition of its step says.
+
+pub mod checks;
+pub mod closing;
+pub mod header;
+pub mod places;

@@ -1,0 +1,23 @@
+-- `tag_decoder::settings::set_max_allowable_tag_size`: two fields set. Assumes nothing.
+use mathlib.Core.Path.{refl}
+use Rattle.tag_decoder.specs.Settings.{withSettings}
+use borrow.Author.Needs.{needs}
+use Rattle.tag_decoder.proofs.settings.set_max_allowable_tag_size.Statement.{statement}
+use Rattle.tag_decoder.proofs.settings.set_max_allowable_tag_size.Tie as tie
+
+enum-told : tie.Need-enum-told
+enum-told c = search needs
+
+enum-known-size : tie.Need-enum-known-size
+enum-known-size c = search needs
+
+returns : tie.Need-returns
+unfolding withSettings
+returns c = rw (c .enum-told .given .1)
+
+returns-2 : tie.Need-returns-2
+unfolding withSettings
+returns-2 c = rw (c .before .size .given .1)
+
+pub set-max-allowable-tag-size-spec : {M : Type 1} → statement M
+set-max-allowable-tag-size-spec = tie.close (tie.spec enum-told enum-known-size returns returns-2)

@@ -1,0 +1,91 @@
+// `decode`, `decode_eof` and `try_recover`.
+
+ghost use mathlib.Core.Path.{_≡_};
+ghost use Prim.Native.Nat.{_+_, _^_, _≤_};
+ghost use lib.ListN.{length};
+ghost use Rattle.table.specs.Table.{tableOf};
+ghost use Rattle.decoder_state.specs.OneCall.{decode, finish, closeAll, ended, decodeEof};
+use crate::moving::close;
+use crate::moving::moved;
+use crate::moving::refused;
+use crate::moving::still;
+use crate::moving::with_note;
+use decoder_decide::decide;
+use decoder_element::cut::cut_bytes;
+use decoder_element::cut::cut_master;
+use decoder_state::moves::with_finished;
+use decoder_state::types::Answer;
+use decoder_state::types::DecodeError;
+use decoder_state::types::Decoded;
+use decoder_state::types::TagDecoder;
+use decoder_tests::closing::all_masters;
+use decoder_tests::places::first_cut;
+
+// One call: the next event, or need more, finished, or a refusal.
+pub fn decode(entries: &[u64], parts: &[u64], d: TagDecoder, input: &[u8]) -> Decoded
+    ensures { λ r. ⌜ r ≡ decode (now (entries .entry)) (now (parts .entry)) d (now (input .entry)) ⌝ }
+{
+    let decision = decide(entries, parts, d, input);
+    let note = decision.note;
+    let action = decision.action;
+    moved(with_note(parts, d, note), input.len(), action)
+}
+
+// All close, and the first End is handed out.
+fn finished(d: TagDecoder) -> Decoded
+    requires { ⌜ d .«open_count» ≤ 32 ⌝ }
+    ensures { λ r. ⌜ r ≡ finish d ⌝ }
+{
+    let count = d.open_count;
+    let done = with_finished(d);
+    if count == 0 {
+        return still(Answer::Finished, done);
+    }
+    close(done, 0)
+}
+
+fn close_all(entries: &[u64], parts: &[u64], d: TagDecoder) -> Decoded
+    requires { ⌜ d .«open_count» ≤ 32 ⌝ }
+    ensures { λ r. ⌜ r ≡ closeAll (tableOf (now (entries .entry)) (now (parts .entry))) d ⌝ }
+{
+    if all_masters(entries, parts, d, 0) {
+        return finished(d);
+    }
+    refused(DecodeError::NotAMaster, d.position, d)
+}
+
+// The input has ended, and a call had no event.
+fn end_of_input(entries: &[u64], parts: &[u64], d: TagDecoder, input: &[u8]) -> Decoded
+    requires { ⌜ (d .«open_count» ≤ 32) × (d .position + length (now input) ≤ 2 ^ 62) ⌝ }
+    ensures { λ r. ⌜ r ≡ ended (tableOf (now (entries .entry)) (now (parts .entry))) d (now (input .entry)) ⌝ }
+{
+    let position = d.position;
+    if 0 < input.len() {
+        return refused(
+            DecodeError::UnexpectedEOF(cut_bytes(position, input)),
+            position,
+            d,
+        );
+    }
+    let k = first_cut(d);
+    if k < d.open_count {
+        let m = d.open[k];
+        return refused(DecodeError::UnexpectedEOF(cut_master(m)), m.tag_start, d);
+    }
+    close_all(entries, parts, d)
+}
+
+// The same once the input has ended for good.
+pub fn decode_eof(entries: &[u64], parts: &[u64], d: TagDecoder, input: &[u8]) -> Decoded
+    ensures { λ r. ⌜ r ≡ decodeEof (now (entries .entry)) (now (parts .entry)) d (now (input .entry)) ⌝ }
+{
+    let r = decode(entries, parts, d, input);
+    let answer = r.answer;
+    let state = r.state;
+    match answer {
+        Answer::Event(_) => r,
+        Answer::NeedMore => end_of_input(entries, parts, state, input),
+        Answer::Finished => end_of_input(entries, parts, state, input),
+        Answer::Refused(_) => r,
+    }
+}

@@ -1,0 +1,6 @@
+// The decoder: one call, the end of input, recovery and the settings. `TagDecoder` of tag_decoder.rs, whose record goes in by value and comes back
+// in the answer.
+
+pub mod calls;
+mod moving;
+pub mod settings;
