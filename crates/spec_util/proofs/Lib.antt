@@ -1,3 +1,4 @@
 pub mod Walking
+pub mod Endings
 pub mod Unique
 pub mod Examples

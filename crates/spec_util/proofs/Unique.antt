@@ -22,23 +22,30 @@ use Rattle.spec_util.proofs.walk.walk_end.Reads as walk-end
 use Rattle.spec_util.proofs.walk.validate_tag_path.Kinds as validate-tag-path-kinds
 use Rattle.spec_util.proofs.walk.validate_tag_path.Reads as validate-tag-path
 
-pub no-tag-determined : (κs : Lfts 0) (a : Dens κs no-tag-kinds.ps) (r r' : OpenTag) → ((e : _) → no-tag.Post κs a r e → no-tag.Post κs a r' e → r ≡ r')
+pub no-tag-determined : (κs : Lfts 0) (a : Dens κs no-tag-kinds.ps) (r r' : OpenTag)
+    → ((e : _) → no-tag.Post κs a r e → no-tag.Post κs a r' e → r ≡ r')
 no-tag-determined κs a r r' e = same
 
-pub is-parent-determined : (κs : Lfts 2) (a : Dens κs is-parent-kinds.ps) (r r' : Bool) → ((e : _) → is-parent.Post κs a r e → is-parent.Post κs a r' e → r ≡ r')
+pub is-parent-determined : (κs : Lfts 2) (a : Dens κs is-parent-kinds.ps) (r r' : Bool)
+    → ((e : _) → is-parent.Post κs a r e → is-parent.Post κs a r' e → r ≡ r')
 is-parent-determined κs a r r' e = same
 
-pub is-sibling-determined : (κs : Lfts 2) (a : Dens κs is-sibling-kinds.ps) (r r' : Bool) → ((e : _) → is-sibling.Post κs a r e → is-sibling.Post κs a r' e → r ≡ r')
+pub is-sibling-determined : (κs : Lfts 2) (a : Dens κs is-sibling-kinds.ps) (r r' : Bool)
+    → ((e : _) → is-sibling.Post κs a r e → is-sibling.Post κs a r' e → r ≡ r')
 is-sibling-determined κs a r r' e = same
 
-pub is-ended-by-determined : (κs : Lfts 2) (a : Dens κs is-ended-by-kinds.ps) (r r' : Bool) → ((e : _) → is-ended-by.Post κs a r e → is-ended-by.Post κs a r' e → r ≡ r')
+pub is-ended-by-determined : (κs : Lfts 2) (a : Dens κs is-ended-by-kinds.ps) (r r' : Bool)
+    → ((e : _) → is-ended-by.Post κs a r e → is-ended-by.Post κs a r' e → r ≡ r')
 is-ended-by-determined κs a r r' e = same
 
-pub walk-master-determined : (κs : Lfts 2) (a : Dens κs walk-master-kinds.ps) (r r' : Walk) → ((e : _) → walk-master.Post κs a r e → walk-master.Post κs a r' e → r ≡ r')
+pub walk-master-determined : (κs : Lfts 2) (a : Dens κs walk-master-kinds.ps) (r r' : Walk)
+    → ((e : _) → walk-master.Post κs a r e → walk-master.Post κs a r' e → r ≡ r')
 walk-master-determined κs a r r' e = same
 
-pub walk-end-determined : (κs : Lfts 1) (a : Dens κs walk-end-kinds.ps) (r r' : Bool) → ((e : _) → walk-end.Post κs a r e → walk-end.Post κs a r' e → r ≡ r')
+pub walk-end-determined : (κs : Lfts 1) (a : Dens κs walk-end-kinds.ps) (r r' : Bool)
+    → ((e : _) → walk-end.Post κs a r e → walk-end.Post κs a r' e → r ≡ r')
 walk-end-determined κs a r r' e = same
 
-pub validate-tag-path-determined : (κs : Lfts 2) (a : Dens κs validate-tag-path-kinds.ps) (r r' : Bool) → ((e : _) → validate-tag-path.Post κs a r e → validate-tag-path.Post κs a r' e → r ≡ r')
+pub validate-tag-path-determined : (κs : Lfts 2) (a : Dens κs validate-tag-path-kinds.ps) (r r' : Bool)
+    → ((e : _) → validate-tag-path.Post κs a r e → validate-tag-path.Post κs a r' e → r ≡ r')
 validate-tag-path-determined κs a r r' e = same

@@ -1,4 +1,4 @@
--- Document 01, "One call of the decoder": "An ID ends a master when it is in the master's path, has an equal path, or is a typed root."
+-- Which IDs end a master: document 01, "One call of the decoder".
 use Prim.Native.Nat.{ℕ}
 use mathlib.Core.Bool.{Bool, false, _&&_, _||_}
 use mathlib.Core.List.{List}
@@ -9,10 +9,12 @@ use Rattle.table.specs.Table.{Entry, dataTypeOf, pathOf, samePath, isTyped}
 use Rattle.table.specs.declared.types.PathPart.{PathPart}
 use Rattle.table.specs.declared.types.PathPart.the-variants.{Id, Global}
 
+-- a part is this ID
 unfoldable pub isIdOf : ℕ → PathPart → Bool
 isIdOf id (Id x) = eqb x id
 isIdOf id (Global min max) = false
 
+-- the ID stands in a path
 unfoldable pub hasId : ℕ → List PathPart → Bool
 hasId id path = any (isIdOf id) path
 
@@ -28,5 +30,6 @@ isSibling t master id = samePath (pathOf t master) (pathOf t id)
 unfoldable pub isTypedRoot : List Entry → ℕ → Bool
 isTypedRoot t id = isTyped (dataTypeOf t id) && eqb (length (pathOf t id)) 0
 
+-- "An ID ends a master when it is in the master's path, has an equal path, or is a typed root"
 unfoldable pub isEndedBy : List Entry → ℕ → ℕ → Bool
 isEndedBy t master id = isParent t master id || isSibling t master id || isTypedRoot t id

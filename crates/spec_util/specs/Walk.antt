@@ -1,4 +1,4 @@
--- The path walk: document 01, "One call of the decoder": "Path walk from the outermost open master, marker 0, counter 0".
+-- The path walk of an ID along its path: document 01, "One call of the decoder", "Path walk".
 use Prim.Native.Nat.{ℕ, _+_, _-_, _^_, min}
 use mathlib.Core.Bool.{Bool, true, false, cond, not, _&&_, _||_}
 use mathlib.Core.List.{List, [], _∷_}
@@ -20,16 +20,19 @@ noTag = record { id = 0; known = false; size = 0; «tag_start» = 0; «data_star
 
 -- ---- bounds: one that is not given bounds nothing
 
+-- "over max"
 unfoldable pub overMax : ℕ → Bound → Bool
 overMax n NotGiven = false
 overMax n (Given most) = ltb most n
 
+-- "below min"
 unfoldable pub underMin : ℕ → Bound → Bool
 underMin n NotGiven = false
 underMin n (Given least) = ltb n least
 
 -- ---- one master
 
+-- part i of the path is there, and is this ID
 unfoldable pub isIdAt : List PathPart → ℕ → ℕ → Bool
 isIdAt path i id = ltb i (length path) && isIdOf id (getD path i (Id 0))
 
@@ -52,10 +55,11 @@ unfoldable pub walkPart : List PathPart → ℕ → ℕ → ℕ → Walk
 walkPart path master marker counter =
     cond (leb (length path) marker) Refuse (walkAt path (getD path marker (Id 0)) master marker counter)
 
+-- "Unknown and ended by the new ID"
 unfoldable pub unknownAndEnded : List Entry → Bool → ℕ → ℕ → Bool
 unknownAndEnded t known master id = not known && isEndedBy t master id
 
--- "Unknown and ended by the new ID: accept at once"
+-- "Unknown and ended by the new ID: accept at once", tested first at each master
 unfoldable pub walkMaster : List Entry → List PathPart → ℕ → ℕ → Bool → ℕ → ℕ → Walk
 walkMaster t path id master known marker counter =
     cond (unknownAndEnded t known master id) Accept (walkPart path master marker counter)
@@ -74,6 +78,7 @@ walkEnd path marker counter =
 
 -- ---- the walk
 
+-- an answer ends the walk
 unfoldable pub goOn : Walk → (ℕ → ℕ → Bool) → Bool
 goOn Accept rest = true
 goOn Refuse rest = false
@@ -85,6 +90,7 @@ walkFrom t path id marker counter [] = walkEnd path marker counter
 walkFrom t path id marker counter (m ∷ ms) =
     goOn (walkMaster t path id (m .id) (m .known) marker counter) (λ next soFar. walkFrom t path id next soFar ms)
 
+-- "from the outermost open master, marker 0, counter 0"
 unfoldable pub validateTagPath : List Entry → ℕ → List OpenTag → Bool
 validateTagPath t id masters = walkFrom t (pathOf t id) id 0 0 masters
 

@@ -23,7 +23,8 @@ unfolding entryFor
 own-entry [] id n = absurd (n refl)
 own-entry (e ∷ t) id n = go (eqb (e .id) id) refl n (own-entry t id)
   where
-    go : (b : Bool) → eqb (e .id) id ≡ b → (cond b e (entryFor t id) .kind ≡ Untyped → ⊥) → ((dataTypeOf t id ≡ Untyped → ⊥) → entryFor t id .id ≡ id)
+    go : (b : Bool) → eqb (e .id) id ≡ b → (cond b e (entryFor t id) .kind ≡ Untyped → ⊥)
+        → ((dataTypeOf t id ≡ Untyped → ⊥) → entryFor t id .id ≡ id)
         → cond (eqb (e .id) id) e (entryFor t id) .id ≡ id
     go true q n below = rw q (eqb-true _ _ q)
     go false q n below = rw q (below n)
@@ -46,7 +47,8 @@ front-ids (p ∷ before) rest e =
 module _ (t : List Entry) (passed : PassedTable t) where
   pub typed-allowed : (id : ℕ) → (dataTypeOf t id ≡ Untyped → ⊥) → allowedId id ≡ true
   typed-allowed id n =
-      rw (own-entry t id n) at (for-every (λ e. (e .kind ≡ Untyped → ⊥) → allowedId (e .id) ≡ true) t (λ u. absurd (u refl)) (λ i h u. passed .allowed i h) id n)
+      let each : Entry → Type 0 = λ e. (e .kind ≡ Untyped → ⊥) → allowedId (e .id) ≡ true in
+      rw (own-entry t id n) at (for-every each t (λ u. absurd (u refl)) (λ i h u. passed .allowed i h) id n)
 
   pub master-of-ids : (id : ℕ) → dataTypeOf t id ≡ Master → onlyIds (pathOf t id) ≡ true
   unfolding onlyIds every

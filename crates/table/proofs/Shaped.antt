@@ -26,7 +26,8 @@ pub record Shaped (es ps : List ℕ) : Type 0 where
   pub parts : (i : ℕ) → i < length ps / 3 → goodPart (getD ps (3 * i) 0) (getD ps (3 * i + 1) 0) (getD ps (3 * i + 2) 0) ≡ true
   pub entries : (i : ℕ) → i < length es / 4 → GoodEntry es ps i
 
-parts-good : (ps : List ℕ) → goodParts ps ≡ true → ((i : ℕ) → i < length ps / 3 → goodPart (getD ps (3 * i) 0) (getD ps (3 * i + 1) 0) (getD ps (3 * i + 2) 0) ≡ true)
+parts-good : (ps : List ℕ) → goodParts ps ≡ true
+    → ((i : ℕ) → i < length ps / 3 → goodPart (getD ps (3 * i) 0) (getD ps (3 * i + 1) 0) (getD ps (3 * i + 2) 0) ≡ true)
 unfolding goodParts
 parts-good ps e i h =
     sym (threes-at goodPart ps i true h) ∙ every-at (λ (g : Bool). g) (threes goodPart ps) true e i (rw (length-threes goodPart ps) h)

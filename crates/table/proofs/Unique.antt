@@ -41,41 +41,54 @@ use Rattle.table.proofs.check.check_table.Reads as check-table
 pub same : {A : Type 0} {a x y : A} → x ≡ a → y ≡ a → x ≡ y
 same p q = p ∙ sym q
 
-pub part-at-determined : (κs : Lfts 1) (a : Dens κs part-at-kinds.ps) (r r' : PathPart) → ((e : _) → part-at.Post κs a r e → part-at.Post κs a r' e → r ≡ r')
+pub part-at-determined : (κs : Lfts 1) (a : Dens κs part-at-kinds.ps) (r r' : PathPart)
+    → ((e : _) → part-at.Post κs a r e → part-at.Post κs a r' e → r ≡ r')
 part-at-determined κs a r r' e = same
 
-pub path-length-determined : (κs : Lfts 1) (a : Dens κs path-length-kinds.ps) (r r' : ℕ) → ((e : _) → path-length.Post κs a r e → path-length.Post κs a r' e → r ≡ r')
+pub path-length-determined : (κs : Lfts 1) (a : Dens κs path-length-kinds.ps) (r r' : ℕ)
+    → ((e : _) → path-length.Post κs a r e → path-length.Post κs a r' e → r ≡ r')
 path-length-determined κs a r r' e = same
 
-pub path-part-determined : (κs : Lfts 1) (a : Dens κs path-part-kinds.ps) (r r' : PathPart) → ((e : _) → path-part.Post κs a r e → path-part.Post κs a r' e → r ≡ r')
+pub path-part-determined : (κs : Lfts 1) (a : Dens κs path-part-kinds.ps) (r r' : PathPart)
+    → ((e : _) → path-part.Post κs a r e → path-part.Post κs a r' e → r ≡ r')
 path-part-determined κs a r r' e = same
 
-pub same-path-determined : (κs : Lfts 1) (a : Dens κs same-path-kinds.ps) (r r' : Bool) → ((e : _) → same-path.Post κs a r e → same-path.Post κs a r' e → r ≡ r')
+pub same-path-determined : (κs : Lfts 1) (a : Dens κs same-path-kinds.ps) (r r' : Bool)
+    → ((e : _) → same-path.Post κs a r e → same-path.Post κs a r' e → r ≡ r')
 same-path-determined κs a r r' e = same
 
-pub look-up-determined : (κs : Lfts 2) (a : Dens κs look-up-kinds.ps) (r r' : Spec) → ((e : _) → look-up.Post κs a r e → look-up.Post κs a r' e → r ≡ r')
+pub look-up-determined : (κs : Lfts 2) (a : Dens κs look-up-kinds.ps) (r r' : Spec)
+    → ((e : _) → look-up.Post κs a r e → look-up.Post κs a r' e → r ≡ r')
 look-up-determined κs a r r' e = same
 
-pub get-tag-data-type-determined : (κs : Lfts 2) (a : Dens κs get-tag-data-type-kinds.ps) (r r' : TagDataType) → ((e : _) → get-tag-data-type.Post κs a r e → get-tag-data-type.Post κs a r' e → r ≡ r')
+pub get-tag-data-type-determined : (κs : Lfts 2) (a : Dens κs get-tag-data-type-kinds.ps) (r r' : TagDataType)
+    → ((e : _) → get-tag-data-type.Post κs a r e → get-tag-data-type.Post κs a r' e → r ≡ r')
 get-tag-data-type-determined κs a r r' e = same
 
-pub get-path-by-id-determined : (κs : Lfts 2) (a : Dens κs get-path-by-id-kinds.ps) (r r' : Path) → ((e : _) → get-path-by-id.Post κs a r e → get-path-by-id.Post κs a r' e → r ≡ r')
+pub get-path-by-id-determined : (κs : Lfts 2) (a : Dens κs get-path-by-id-kinds.ps) (r r' : Path)
+    → ((e : _) → get-path-by-id.Post κs a r e → get-path-by-id.Post κs a r' e → r ≡ r')
 get-path-by-id-determined κs a r r' e = same
 
-pub good-shape-determined : (κs : Lfts 2) (a : Dens κs good-shape-kinds.ps) (r r' : Bool) → ((e : _) → good-shape.Post κs a r e → good-shape.Post κs a r' e → r ≡ r')
+pub good-shape-determined : (κs : Lfts 2) (a : Dens κs good-shape-kinds.ps) (r r' : Bool)
+    → ((e : _) → good-shape.Post κs a r e → good-shape.Post κs a r' e → r ≡ r')
 good-shape-determined κs a r r' e = same
 
-pub rule-number-determined : (κs : Lfts 0) (a : Dens κs rule-number-kinds.ps) (r r' : ℕ) → ((e : _) → rule-number.Post κs a r e → rule-number.Post κs a r' e → r ≡ r')
+pub rule-number-determined : (κs : Lfts 0) (a : Dens κs rule-number-kinds.ps) (r r' : ℕ)
+    → ((e : _) → rule-number.Post κs a r e → rule-number.Post κs a r' e → r ≡ r')
 rule-number-determined κs a r r' e = same
 
-pub checked-number-determined : (κs : Lfts 0) (a : Dens κs checked-number-kinds.ps) (r r' : ℕ) → ((e : _) → checked-number.Post κs a r e → checked-number.Post κs a r' e → r ≡ r')
+pub checked-number-determined : (κs : Lfts 0) (a : Dens κs checked-number-kinds.ps) (r r' : ℕ)
+    → ((e : _) → checked-number.Post κs a r e → checked-number.Post κs a r' e → r ≡ r')
 checked-number-determined κs a r r' e = same
 
-pub is-master-determined : (κs : Lfts 0) (a : Dens κs is-master-kinds.ps) (r r' : Bool) → ((e : _) → is-master.Post κs a r e → is-master.Post κs a r' e → r ≡ r')
+pub is-master-determined : (κs : Lfts 0) (a : Dens κs is-master-kinds.ps) (r r' : Bool)
+    → ((e : _) → is-master.Post κs a r e → is-master.Post κs a r' e → r ≡ r')
 is-master-determined κs a r r' e = same
 
-pub is-typed-determined : (κs : Lfts 0) (a : Dens κs is-typed-kinds.ps) (r r' : Bool) → ((e : _) → is-typed.Post κs a r e → is-typed.Post κs a r' e → r ≡ r')
+pub is-typed-determined : (κs : Lfts 0) (a : Dens κs is-typed-kinds.ps) (r r' : Bool)
+    → ((e : _) → is-typed.Post κs a r e → is-typed.Post κs a r' e → r ≡ r')
 is-typed-determined κs a r r' e = same
 
-pub check-table-determined : (κs : Lfts 2) (a : Dens κs check-table-kinds.ps) (r r' : Checked) → ((e : _) → check-table.Post κs a r e → check-table.Post κs a r' e → r ≡ r')
+pub check-table-determined : (κs : Lfts 2) (a : Dens κs check-table-kinds.ps) (r r' : Checked)
+    → ((e : _) → check-table.Post κs a r e → check-table.Post κs a r' e → r ≡ r')
 check-table-determined κs a r r' e = same

@@ -21,6 +21,7 @@ use Rattle.table.specs.declared.types.Checked.the-variants.{BadShape, Pa
 
 -- ---- numbers
 
+-- the rules are 31 to 35
 abbrev pub ruleNumber : Rule → ℕ
 ruleNumber NotAVint = 31
 ruleNumber Repeated = 32
@@ -44,10 +45,12 @@ allowedId id = isVint id
 unfoldable pub listed : ℕ → List Entry → Bool
 listed id t = any (λ e. eqb (e .id) id) t
 
+-- a part is an ID, and no Global
 abbrev pub isId : PathPart → Bool
 isId (Id x) = true
 isId (Global min max) = false
 
+-- a path holds IDs only
 unfoldable pub onlyIds : List PathPart → Bool
 onlyIds path = every isId path
 
@@ -55,6 +58,7 @@ onlyIds path = every isId path
 unfoldable pub masterOfIds : TagDataType → List PathPart → Bool
 masterOfIds kind path = cond (isMaster kind) (onlyIds path) true
 
+-- a part, if it is an ID, is a Master of the table
 unfoldable pub masterOrGlobal : List Entry → PathPart → Bool
 masterOrGlobal t (Id x) = isMaster (dataTypeOf t x)
 masterOrGlobal t (Global min max) = true
@@ -88,9 +92,11 @@ unfoldable pub firstBroken : (Rule → Bool) → List Rule → Judged
 firstBroken kept [] = Sound
 firstBroken kept (r ∷ rs) = cond (kept r) (firstBroken kept rs) (Breaks r)
 
+-- what the rules say of entry i
 abbrev pub judged : List Entry → ℕ → Judged
 judged t i = firstBroken (keeps t i (getD t i unlisted)) rules
 
+-- a fault ends the check with its entry, counted from 0
 unfoldable pub faultOr : Judged → ℕ → Checked → Checked
 faultOr Sound i rest = rest
 faultOr (Breaks r) i rest = Fault r i
@@ -100,5 +106,6 @@ unfoldable pub checkFrom : List Entry → ℕ → ℕ → Checked
 checkFrom t zero i = Passed
 checkFrom t (suc n) i = faultOr (judged t i) i (checkFrom t n (i + 1))
 
+-- "answers 10 for a bad shape; else it passes the table, or names the lowest faulty entry and its first broken rule"
 unfoldable pub checkTable : List ℕ → List ℕ → Checked
 checkTable es ps = cond (goodShape es ps) (checkFrom (tableOf es ps) (length (tableOf es ps)) 0) BadShape

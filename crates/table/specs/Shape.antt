@@ -12,7 +12,7 @@ unfoldable pub goodPart : ℕ → ℕ → ℕ → Bool
 goodPart sort low high =
     cond (eqb sort 0) (eqb high 0) (eqb sort 1 && leb low 65_536 && leb high 65_536)
 
--- parts that no entry uses too
+-- each part, those that no entry uses too
 unfoldable pub goodParts : List ℕ → Bool
 goodParts ps = every (λ (good : Bool). good) (threes goodPart ps)
 
@@ -20,6 +20,7 @@ goodParts ps = every (λ (good : Bool). good) (threes goodPart ps)
 unfoldable pub goodEntry : ℕ → ℕ → ℕ → ℕ → Bool
 goodEntry all kind first count = leb kind 5 && leb count 16 && leb (first + count) all
 
+-- each entry, one with an empty path too
 unfoldable pub goodEntries : ℕ → List ℕ → Bool
 goodEntries all es = every (λ (good : Bool). good) (fours (λ id kind first count. goodEntry all kind first count) es)
 

@@ -41,6 +41,7 @@ boundOf word = cond (eqb word 0) NotGiven (Given (word - 1))
 unfoldable pub partOf : ℕ → ℕ → ℕ → PathPart
 partOf sort low high = cond (eqb sort 0) (Id low) (Global (boundOf low) (boundOf high))
 
+-- all the parts of the table, in order
 abbrev pub partsOf : List ℕ → List PathPart
 partsOf ws = threes partOf ws
 
@@ -48,7 +49,7 @@ partsOf ws = threes partOf ws
 abbrev pub within : List PathPart → Path → List PathPart
 within ps p = take (p .count) (drop (p .first) ps)
 
--- parts are compared as values
+-- two bounds, two parts and two paths are equal as values, wherever they lie
 unfoldable pub sameBound : Bound → Bound → Bool
 sameBound NotGiven NotGiven = true
 sameBound NotGiven (Given n) = false
@@ -79,6 +80,7 @@ kindOf word =
     (cond (eqb word 4) Binary
     Float))))
 
+-- a type is Master
 unfoldable pub isMaster : TagDataType → Bool
 isMaster Untyped = false
 isMaster Master = true
@@ -88,7 +90,7 @@ isMaster Utf8 = false
 isMaster Binary = false
 isMaster Float = false
 
--- an ID that is not in the table is without a type
+-- an ID has a type: it is in the table
 unfoldable pub isTyped : TagDataType → Bool
 isTyped Untyped = false
 isTyped Master = true
@@ -118,6 +120,7 @@ entryOf ps id kind first count = record {
   range = clipped (length ps) first count;
 }
 
+-- all the entries, in order
 unfoldable pub tableOf : List ℕ → List ℕ → List Entry
 tableOf es ps = fours (entryOf (partsOf ps)) es
 
@@ -132,6 +135,7 @@ unfoldable pub entryFor : List Entry → ℕ → Entry
 entryFor [] id = unlisted
 entryFor (e ∷ t) id = cond (eqb (e .id) id) e (entryFor t id)
 
+-- the type, the path and where the path stands, of an ID
 abbrev pub dataTypeOf : List Entry → ℕ → TagDataType
 dataTypeOf t id = entryFor t id .kind
 

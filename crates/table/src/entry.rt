@@ -26,8 +26,8 @@ fn index(word: u64) -> usize
     word as usize
 }
 
-// The range that an entry's words name, as much of it as there is.
-fn clip(all: usize, first: usize, count: usize) -> Path
+// A range, as much of it as lies in all the parts.
+pub fn clip(all: usize, first: usize, count: usize) -> Path
     ensures { λ r. ⌜ r ≡ clipped all first count ⌝ }
 {
     if all <= first {

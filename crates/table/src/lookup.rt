@@ -32,8 +32,8 @@ pub fn get_tag_data_type(entries: &[u64], parts: &[u64], id: u64) -> TagDataType
 pub fn get_path_by_id(entries: &[u64], parts: &[u64], id: u64) -> Path
     ensures { λ r. ⌜ r ≡ rangeOf (tableOf (now (entries .entry)) (now (parts .entry))) id ⌝ }
 {
-    let spec = look_up(entries, parts, id);
-    spec.path
+    let found = look_up(entries, parts, id);
+    found.path
 }
 
 pub fn is_master(kind: TagDataType) -> bool

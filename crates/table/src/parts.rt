@@ -4,6 +4,7 @@ ghost use mathlib.Core.Path.{_≡_};
 ghost use lib.ListN.{length, getD};
 ghost use Rattle.table.specs.Table.{boundOf, partOf, partsOf, within, sameBound, samePart, samePath};
 ghost use Rattle.table.specs.declared.types.PathPart.the-variants.{Id};
+use crate::entry::clip;
 use crate::types::Bound;
 use crate::types::Path;
 use crate::types::PathPart;
@@ -42,16 +43,8 @@ pub fn part_at(parts: &[u64], i: usize) -> PathPart
 pub fn path_length(parts: &[u64], path: Path) -> usize
     ensures { λ r. ⌜ r ≡ length (within (partsOf (now (parts .entry))) path) ⌝ }
 {
-    let first = path.first;
-    let count = path.count;
-    let all = parts.len() / 3;
-    if all <= first {
-        return 0;
-    }
-    if all - first <= count {
-        return all - first;
-    }
-    count
+    let there = clip(parts.len() / 3, path.first, path.count);
+    there.count
 }
 
 // Part i of a range.

@@ -17,9 +17,9 @@ same-path-requires c κs = search needs
 returns : tie.Need-returns
 unfolding isSibling
 returns c =
-    let a = c .before .before .before .before .before .args in
-    rw (← (path-of (a .entries .now) (a .parts .now) _ (c .before .before .get-path-by-id .ensures)), ← (path-of (a .entries .now) (a .parts .now) _ (c .before .get-path-by-id2 .ensures)))
-    (c .same-path .ensures)
+    let one = path-of _ _ _ (c .before .before .get-path-by-id .ensures) in
+    let two = path-of _ _ _ (c .before .get-path-by-id2 .ensures) in
+    rw (← one, ← two) (c .same-path .ensures)
 
 pub is-sibling-spec : {M : Type 1} → statement M
 is-sibling-spec =

@@ -1,11 +1,12 @@
 -- `spec_util::ids::has_id`. The invariant: no part passed is the ID. Assumes nothing.
 use Prim.Native.Nat.{_-_, _≤_, _<_}
 use mathlib.Core.Path.{_≡_, refl, sym, _∙_}
-use mathlib.Core.Bool.{true, false}
+use mathlib.Core.List.{List}
 use native.Mathlib.Omega.{arith}
 use lib.ListN.{length, getD, drop}
 use Rattle.table.specs.Lists.{any}
 use Rattle.table.specs.Table.{partsOf, within}
+use Rattle.table.specs.declared.types.PathPart.{PathPart}
 use Rattle.table.specs.declared.types.PathPart.the-variants.{Id}
 use Rattle.table.proofs.Loops.{any-here, any-next, any-end}
 use Rattle.spec_util.specs.Ended.{isIdOf, hasId}
@@ -17,6 +18,17 @@ Inv-loop parts id path count i₀ i = (i ≤ count) × (hasId id (within (partsO
 
 abbrev μ-loop : tie.MeasureT-loop
 μ-loop parts id path count i₀ i = count - i
+
+abbrev path : tie.At-loop Inv-loop μ-loop → List PathPart
+path c = within (partsOf (c .before .before .before .args .parts .now)) (c .before .before .before .args .path)
+
+reach : (c : tie.In-loop Inv-loop μ-loop) → c .before .loop .i < length (path (c .before))
+reach c = omega arith
+
+-- the test of the part that was read
+read : (c : tie.After-is-id-of Inv-loop μ-loop)
+    → isIdOf (c .before .before .before .before .before .before .args .id) (getD (path (c .before .before .before)) (c .before .before .before .loop .i) (Id 0)) ≡ c .is-id-of .result
+read c = rw (← c .before .path-part .ensures) (sym (c .is-id-of .ensures))
 
 path-length-requires : tie.Need-path-length-requires Inv-loop μ-loop
 path-length-requires c κs = tt
@@ -32,13 +44,7 @@ is-id-of-requires : tie.Need-is-id-of-requires Inv-loop μ-loop
 is-id-of-requires c κs = tt
 
 returns : tie.Need-returns Inv-loop μ-loop
-returns c =
-    let t = c .before .before .before .before in
-    let a = t .before .before .before .args in
-    let L = within (partsOf (a .parts .now)) (a .path) in
-    let h : t .loop .i < length L = omega arith in
-    let e : isIdOf (a .id) (getD L (t .loop .i) (Id 0)) ≡ true = rw (← c .before .before .path-part .ensures, ← c .before .is-id-of .ensures) (c .if1 .taken) in
-    sym (t .loop .inv .1 ∙ any-here (isIdOf (a .id)) L (Id 0) (t .loop .i) h e)
+returns c = sym (c .before .before .before .before .loop .inv .1 ∙ any-here _ _ (Id 0) _ (reach (c .before .before .before)) (read (c .before) ∙ c .if1 .taken))
 
 add-i : tie.Need-add-i Inv-loop μ-loop
 add-i c = omega arith
@@ -47,21 +53,12 @@ loop-less : tie.Need-loop-less Inv-loop μ-loop
 loop-less c = omega arith
 
 loop-again : tie.Need-loop-again Inv-loop μ-loop
-loop-again c =
-    let t = c .before .before .before .before in
-    let a = t .before .before .before .args in
-    let L = within (partsOf (a .parts .now)) (a .path) in
-    let h : t .loop .i < length L = omega arith in
-    let e : isIdOf (a .id) (getD L (t .loop .i) (Id 0)) ≡ false = rw (← c .before .before .path-part .ensures, ← c .before .is-id-of .ensures) (c .if1 .left) in
-    (omega arith, t .loop .inv .1 ∙ any-next (isIdOf (a .id)) L (Id 0) (t .loop .i) h e)
+loop-again c = (omega arith, c .before .before .before .before .loop .inv .1 ∙ any-next _ _ (Id 0) _ (reach (c .before .before .before)) (read (c .before) ∙ c .if1 .left))
 
 returns-2 : tie.Need-returns-2 Inv-loop μ-loop
 returns-2 c =
-    let t = c .before in
-    let a = t .before .before .before .args in
-    let L = within (partsOf (a .parts .now)) (a .path) in
-    let h : length L ≤ t .loop .i = omega arith in
-    sym (t .loop .inv .1 ∙ any-end (isIdOf (a .id)) L (t .loop .i) h)
+    let h : length (path (c .before)) ≤ c .before .loop .i = omega arith in
+    sym (c .before .loop .inv .1 ∙ any-end _ _ _ h)
 
 pub has-id-spec : {M : Type 1} → statement M
 has-id-spec =

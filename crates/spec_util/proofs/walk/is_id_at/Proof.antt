@@ -20,7 +20,9 @@ is-id-of-requires c κs = search needs
 
 returns-2 : tie.Need-returns-2
 unfolding isIdAt
-returns-2 c = rw (← c .before .before .before .path-length .ensures, lt-ltb _ _ (c .before .before .if1 .left), ← c .before .path-part .ensures) (c .is-id-of .ensures)
+returns-2 c =
+    rw (← c .before .before .before .path-length .ensures, lt-ltb _ _ (c .before .before .if1 .left), ← c .before .path-part .ensures)
+    (c .is-id-of .ensures)
 
 pub is-id-at-spec : {M : Type 1} → statement M
 is-id-at-spec =

@@ -11,12 +11,17 @@ use Rattle.table.specs.declared.types.PathPart.{PathPart}
 use Rattle.table.proofs.Entries.{path-of, take-as-many}
 use Rattle.spec_util.specs.Walk.{noTag, walkMaster, walkFrom, validateTagPath}
 use Rattle.spec_util.specs.declared.types.OpenTag.{OpenTag}
+use Rattle.spec_util.specs.declared.types.Walk.{Walk}
 use Rattle.spec_util.proofs.Walking.{walk-accepts, walk-refuses, walk-goes-on, walk-ends, counter-grows}
 use Rattle.spec_util.proofs.walk.validate_tag_path.Statement.{statement}
 use Rattle.spec_util.proofs.walk.validate_tag_path.Tie as tie
 
 abbrev Inv-loop : tie.InvT-loop
-Inv-loop entries parts tag-id count doc-path path n marker₀ counter₀ i₀ marker counter i = (i ≤ n) × (counter ≤ i) × (walkFrom (tableOf entries parts) (within (partsOf parts) path) tag-id 0 0 (take n doc-path) ≡ walkFrom (tableOf entries parts) (within (partsOf parts) path) tag-id marker counter (drop i (take n doc-path)))
+Inv-loop entries parts tag-id count doc-path path n marker₀ counter₀ i₀ marker counter i =
+    (i ≤ n)
+    × (counter ≤ i)
+    × (walkFrom (tableOf entries parts) (within (partsOf parts) path) tag-id 0 0 (take n doc-path)
+    ≡ walkFrom (tableOf entries parts) (within (partsOf parts) path) tag-id marker counter (drop i (take n doc-path)))
 
 abbrev μ-loop : tie.MeasureT-loop
 μ-loop entries parts tag-id count doc-path path n marker₀ counter₀ i₀ marker counter i = n - i
@@ -24,16 +29,17 @@ abbrev μ-loop : tie.MeasureT-loop
 long : (c : tie.Start Inv-loop μ-loop) → length (c .args .t4) ≡ 32
 long c = search needs
 
--- the masters that the loop goes over, and the whole walk in terms of them
-abbrev masters : tie.After-at-most-32 Inv-loop μ-loop → List OpenTag
-masters c = take (c .at-most-32 .result) (c .before .before .before .before .args .t4)
-
 abbrev table : tie.Start Inv-loop μ-loop → List Entry
 table c = tableOf (c .args .entries .now) (c .args .parts .now)
 
 abbrev path-read : tie.After-get-path-by-id Inv-loop μ-loop → List PathPart
 path-read c = within (partsOf (c .before .before .before .args .parts .now)) (c .get-path-by-id .result)
 
+-- the masters that the loop goes over
+abbrev masters : tie.After-at-most-32 Inv-loop μ-loop → List OpenTag
+masters c = take (c .at-most-32 .result) (c .before .before .before .before .args .t4)
+
+-- the whole walk is the walk over these
 whole : (c : tie.After-at-most-32 Inv-loop μ-loop)
     → validateTagPath (table (c .before .before .before .before)) (c .before .before .before .before .args .tag-id) (take (c .before .before .before .before .args .count) (c .before .before .before .before .args .t4))
     ≡ walkFrom (table (c .before .before .before .before)) (path-read (c .before)) (c .before .before .before .before .args .tag-id) 0 0 (masters c)
@@ -46,11 +52,14 @@ whole c =
 in-reach : (c : tie.In-loop Inv-loop μ-loop) → c .before .loop .i < length (masters (c .before .before))
 in-reach c = simp length-take (omega (arith, long (c .before .before .before .before .before .before)))
 
--- the step at the master that was read
-met : (c : tie.After-walk-master Inv-loop μ-loop)
-    → walkMaster (table (c .before .before .before .before .before .before .before .before)) (path-read (c .before .before .before .before .before)) (c .before .before .before .before .before .before .before .before .args .tag-id)
-    (getD (masters (c .before .before .before .before)) (c .before .before .before .loop .i) noTag .id) (getD (masters (c .before .before .before .before)) (c .before .before .before .loop .i) noTag .known) (c .before .before .before .loop .marker) (c .before .before .before .loop .counter)
-    ≡ c .walk-master .result
+-- the master that is read, and the step at it
+abbrev master : tie.At-loop Inv-loop μ-loop → OpenTag
+master c = getD (masters (c .before)) (c .loop .i) noTag
+
+abbrev step : tie.At-loop Inv-loop μ-loop → Walk
+step c = walkMaster (table (c .before .before .before .before .before)) (path-read (c .before .before)) (c .before .before .before .before .before .args .tag-id) (master c .id) (master c .known) (c .loop .marker) (c .loop .counter)
+
+met : (c : tie.After-walk-master Inv-loop μ-loop) → step (c .before .before .before) ≡ c .walk-master .result
 met c =
     let l = c .before .before .before .loop in
     let n : min (l .counter) (2 ^ 64 - 2) ≡ l .counter = omega arith in
@@ -79,13 +88,17 @@ enum-told : tie.Need-enum-told Inv-loop μ-loop
 enum-told c = search needs
 
 returns : tie.Need-returns Inv-loop μ-loop
-returns c = sym (whole (c .before .before .before .before .before .before) ∙ c .before .before .before .before .before .loop .inv .2 ∙ walk-accepts _ _ _ _ _ _ _ (in-reach (c .before .before .before .before)) (met (c .before .before) ∙ c .enum-told .given .1))
+returns c =
+    let at = met (c .before .before) ∙ c .enum-told .given .1 in
+    sym (whole (c .before .before .before .before .before .before) ∙ c .before .before .before .before .before .loop .inv .2 ∙ walk-accepts _ _ _ _ _ _ _ (in-reach (c .before .before .before .before)) at)
 
 enum-told-2 : tie.Need-enum-told-2 Inv-loop μ-loop
 enum-told-2 c = search needs
 
 returns-2 : tie.Need-returns-2 Inv-loop μ-loop
-returns-2 c = sym (whole (c .before .before .before .before .before .before) ∙ c .before .before .before .before .before .loop .inv .2 ∙ walk-refuses _ _ _ _ _ _ _ (in-reach (c .before .before .before .before)) (met (c .before .before) ∙ c .enum-told2 .given .1))
+returns-2 c =
+    let at = met (c .before .before) ∙ c .enum-told2 .given .1 in
+    sym (whole (c .before .before .before .before .before .before) ∙ c .before .before .before .before .before .loop .inv .2 ∙ walk-refuses _ _ _ _ _ _ _ (in-reach (c .before .before .before .before)) at)
 
 enum-known-next : tie.Need-enum-known-next Inv-loop μ-loop
 enum-known-next c = search needs

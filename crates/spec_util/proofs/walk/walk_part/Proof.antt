@@ -1,9 +1,28 @@
 -- `spec_util::walk::walk_part`: by the part at the marker. Assumes nothing.
+use mathlib.Core.Path.{_≡_}
+use mathlib.Core.List.{List}
 use borrow.Author.Tests.{eq-eqb, ne-eqb, le-leb, lt-leb}
+use Rattle.table.specs.Table.{partsOf, within}
+use Rattle.table.specs.declared.types.PathPart.{PathPart}
 use Rattle.spec_util.specs.Walk.{walkPart, walkAt}
+use Rattle.spec_util.specs.declared.types.Walk.{Walk}
 use borrow.Author.Needs.{needs}
 use Rattle.spec_util.proofs.walk.walk_part.Statement.{statement}
 use Rattle.spec_util.proofs.walk.walk_part.Tie as tie
+
+abbrev path : tie.Start → List PathPart
+path c = within (partsOf (c .args .parts .now)) (c .args .path)
+
+abbrev walked : tie.Start → Walk
+walked c = walkPart (path c) (c .args .master-id) (c .args .marker) (c .args .counter)
+
+abbrev walked-at : tie.Start → PathPart → Walk
+walked-at c part = walkAt (path c) part (c .args .master-id) (c .args .marker) (c .args .counter)
+
+-- where the marker is in the path, the part that was read decides
+by-part : (c : tie.After-path-part) → walked (c .before .before .before .before) ≡ walked-at (c .before .before .before .before) (c .path-part .result)
+unfolding walkPart
+by-part c = rw (← c .before .before .path-length .ensures, lt-leb _ _ (c .before .if1 .left), ← c .path-part .ensures)
 
 path-length-requires : tie.Need-path-length-requires
 path-length-requires c κs = search needs
@@ -22,8 +41,8 @@ add-t14 : tie.Need-add-t14
 add-t14 c = search needs
 
 returns-2 : tie.Need-returns-2
-unfolding walkPart walkAt
-returns-2 c = rw (← c .before .before .before .before .before .before .path-length .ensures, lt-leb _ _ (c .before .before .before .before .before .if1 .left), ← c .before .before .before .before .path-part .ensures, c .before .before .id .given .1, eq-eqb _ _ (c .if2 .taken))
+unfolding walkAt
+returns-2 c = rw (by-part (c .before .before .before .before), c .before .before .id .given .1, eq-eqb _ _ (c .if2 .taken))
 
 enum-known-min : tie.Need-enum-known-min
 enum-known-min c = search needs
@@ -35,12 +54,12 @@ walk-global-requires : tie.Need-walk-global-requires
 walk-global-requires c κs = search needs
 
 returns-3 : tie.Need-returns-3
-unfolding walkPart walkAt
-returns-3 c = rw (← c .before .before .before .before .before .before .path-length .ensures, lt-leb _ _ (c .before .before .before .before .before .if1 .left), ← c .before .before .before .before .path-part .ensures, c .before .before .id .given .1, ne-eqb _ _ (c .if2 .left))
+unfolding walkAt
+returns-3 c = rw (by-part (c .before .before .before .before), c .before .before .id .given .1, ne-eqb _ _ (c .if2 .left))
 
 returns-4 : tie.Need-returns-4
-unfolding walkPart walkAt
-returns-4 c = rw (← c .before .before .before .before .before .before .path-length .ensures, lt-leb _ _ (c .before .before .before .before .before .if1 .left), ← c .before .before .before .before .path-part .ensures, c .before .before .min .given .1) (c .walk-global .ensures)
+unfolding walkAt
+returns-4 c = rw (by-part (c .before .before .before .before), c .before .before .min .given .1) (c .walk-global .ensures)
 
 pub walk-part-spec : {M : Type 1} → statement M
 walk-part-spec =

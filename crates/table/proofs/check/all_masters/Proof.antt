@@ -1,23 +1,41 @@
 -- `table::check::all_masters`. The invariant: each ID passed is a Master. Assumes nothing.
 use Prim.Native.Nat.{_-_, _≤_, _<_}
 use mathlib.Core.Path.{_≡_, refl, sym, _∙_}
-use mathlib.Core.Bool.{true, false}
+use mathlib.Core.List.{List}
 use borrow.Author.Tests.{not-true, not-false}
 use native.Mathlib.Omega.{arith}
 use lib.ListN.{length, getD, drop}
 use Rattle.table.specs.Lists.{every}
-use Rattle.table.specs.Table.{partsOf, within, tableOf}
+use Rattle.table.specs.Table.{Entry, partsOf, within, tableOf}
 use Rattle.table.specs.Check.{masterOrGlobal, allMasters}
+use Rattle.table.specs.declared.types.PathPart.{PathPart}
 use Rattle.table.specs.declared.types.PathPart.the-variants.{Id}
 use Rattle.table.proofs.Loops.{every-fails, every-next, every-end}
 use Rattle.table.proofs.check.all_masters.Statement.{statement}
 use Rattle.table.proofs.check.all_masters.Tie as tie
 
 abbrev Inv-loop : tie.InvT-loop
-Inv-loop entries parts path count i₀ i = (i ≤ count) × (allMasters (tableOf entries parts) (within (partsOf parts) path) ≡ every (masterOrGlobal (tableOf entries parts)) (drop i (within (partsOf parts) path)))
+Inv-loop entries parts path count i₀ i =
+    (i ≤ count)
+    × (allMasters (tableOf entries parts) (within (partsOf parts) path)
+    ≡ every (masterOrGlobal (tableOf entries parts)) (drop i (within (partsOf parts) path)))
 
 abbrev μ-loop : tie.MeasureT-loop
 μ-loop entries parts path count i₀ i = count - i
+
+abbrev table : tie.At-loop Inv-loop μ-loop → List Entry
+table c = tableOf (c .before .before .before .before .args .entries .now) (c .before .before .before .before .args .parts .now)
+
+abbrev path : tie.At-loop Inv-loop μ-loop → List PathPart
+path c = within (partsOf (c .before .before .before .before .args .parts .now)) (c .before .before .before .before .args .path)
+
+reach : (c : tie.In-loop Inv-loop μ-loop) → c .before .loop .i < length (path (c .before))
+reach c = omega arith
+
+-- the test of the part that was read
+read : (c : tie.After-master-or-global Inv-loop μ-loop)
+    → masterOrGlobal (table (c .before .before .before)) (getD (path (c .before .before .before)) (c .before .before .before .loop .i) (Id 0)) ≡ c .master-or-global .result
+read c = rw (← c .before .path-part .ensures) (sym (c .master-or-global .ensures))
 
 path-length-requires : tie.Need-path-length-requires Inv-loop μ-loop
 path-length-requires c κs = tt
@@ -34,13 +52,8 @@ master-or-global-requires c κs = tt
 
 returns : tie.Need-returns Inv-loop μ-loop
 returns c =
-    let t = c .before .before .before .before in
-    let a = t .before .before .before .before .args in
-    let L = within (partsOf (a .parts .now)) (a .path) in
-    let test = masterOrGlobal (tableOf (a .entries .now) (a .parts .now)) in
-    let h : t .loop .i < length L = omega arith in
-    let e : test (getD L (t .loop .i) (Id 0)) ≡ false = rw (← c .before .before .path-part .ensures, ← c .before .master-or-global .ensures) (not-true _ (c .if1 .taken)) in
-    sym (t .loop .inv .1 ∙ every-fails test L (Id 0) (t .loop .i) h e)
+    let n = read (c .before) ∙ not-true _ (c .if1 .taken) in
+    sym (c .before .before .before .before .loop .inv .1 ∙ every-fails _ _ (Id 0) _ (reach (c .before .before .before)) n)
 
 add-i : tie.Need-add-i Inv-loop μ-loop
 add-i c = omega arith
@@ -50,21 +63,13 @@ loop-less c = omega arith
 
 loop-again : tie.Need-loop-again Inv-loop μ-loop
 loop-again c =
-    let t = c .before .before .before .before in
-    let a = t .before .before .before .before .args in
-    let L = within (partsOf (a .parts .now)) (a .path) in
-    let test = masterOrGlobal (tableOf (a .entries .now) (a .parts .now)) in
-    let h : t .loop .i < length L = omega arith in
-    let e : test (getD L (t .loop .i) (Id 0)) ≡ true = rw (← c .before .before .path-part .ensures, ← c .before .master-or-global .ensures) (not-false _ (c .if1 .left)) in
-    (omega arith, t .loop .inv .1 ∙ every-next test L (Id 0) (t .loop .i) h e)
+    let y = read (c .before) ∙ not-false _ (c .if1 .left) in
+    (omega arith, c .before .before .before .before .loop .inv .1 ∙ every-next _ _ (Id 0) _ (reach (c .before .before .before)) y)
 
 returns-2 : tie.Need-returns-2 Inv-loop μ-loop
 returns-2 c =
-    let t = c .before in
-    let a = t .before .before .before .before .args in
-    let L = within (partsOf (a .parts .now)) (a .path) in
-    let h : length L ≤ t .loop .i = omega arith in
-    sym (t .loop .inv .1 ∙ every-end (masterOrGlobal (tableOf (a .entries .now) (a .parts .now))) L (t .loop .i) h)
+    let h : length (path (c .before)) ≤ c .before .loop .i = omega arith in
+    sym (c .before .loop .inv .1 ∙ every-end _ _ _ h)
 
 pub all-masters-spec : {M : Type 1} → statement M
 all-masters-spec =

@@ -41,8 +41,8 @@ enum-known-rule c = search needs
 returns-2 : tie.Need-returns-2 Inv-loop μ-loop
 returns-2 c =
     let t = c .before .before .before .before .before in
-    let a = t .before .before .before .before .before .args in
-    sym (t .loop .inv .1 ∙ check-stops (tableOf (a .entries .now) (a .parts .now)) (t .loop .i) _ _ (omega arith) (sym (c .before .before .before .first-broken .ensures) ∙ c .before .rule .given .1))
+    let e = sym (c .before .before .before .first-broken .ensures) ∙ c .before .rule .given .1 in
+    sym (t .loop .inv .1 ∙ check-stops _ _ _ _ (omega arith) e)
 
 enum-told : tie.Need-enum-told Inv-loop μ-loop
 enum-told c = search needs
@@ -56,9 +56,10 @@ loop-less c = omega arith
 loop-again : tie.Need-loop-again Inv-loop μ-loop
 loop-again c =
     let t = c .before .before .before .before in
-    let a = t .before .before .before .before .before .args in
-    let n : length (a .entries .now) / 4 - (t .loop .i + 1) ≡ length (a .entries .now) / 4 - t .loop .i - 1 = omega arith in
-    (omega arith, t .loop .inv .1 ∙ check-goes-on (tableOf (a .entries .now) (a .parts .now)) (t .loop .i) _ (omega arith) (sym (c .before .before .first-broken .ensures) ∙ c .enum-told .given .1) ∙ rw n)
+    let all = length (t .before .before .before .before .before .args .entries .now) / 4 in
+    let n : all - (t .loop .i + 1) ≡ all - t .loop .i - 1 = omega arith in
+    let e = sym (c .before .before .first-broken .ensures) ∙ c .enum-told .given .1 in
+    (omega arith, t .loop .inv .1 ∙ check-goes-on _ _ _ (omega arith) e ∙ rw n)
 
 returns-3 : tie.Need-returns-3 Inv-loop μ-loop
 unfolding checkFrom

@@ -79,25 +79,33 @@ master-of-ids-requires c κs = search needs
 
 returns-3 : tie.Need-returns-3
 unfolding firstBroken
-returns-3 c = rw (y31 (c .before .before .before .before), y32 (c .before .before), k33 (c .before) ∙ not-true (c .before .master-of-ids .result) (c .if3 .taken))
+returns-3 c =
+    let n = k33 (c .before) ∙ not-true (c .before .master-of-ids .result) (c .if3 .taken) in
+    rw (y31 (c .before .before .before .before), y32 (c .before .before), n)
 
 all-masters-requires : tie.Need-all-masters-requires
 all-masters-requires c κs = search needs
 
 returns-4 : tie.Need-returns-4
 unfolding firstBroken
-returns-4 c = rw (y31 (c .before .before .before .before .before .before), y32 (c .before .before .before .before), y33 (c .before .before), k34 (c .before) ∙ not-true (c .before .all-masters .result) (c .if4 .taken))
+returns-4 c =
+    let n = k34 (c .before) ∙ not-true (c .before .all-masters .result) (c .if4 .taken) in
+    rw (y31 (c .before .before .before .before .before .before), y32 (c .before .before .before .before), y33 (c .before .before), n)
 
 own-paths-requires : tie.Need-own-paths-requires
 own-paths-requires c κs = search needs
 
 returns-5 : tie.Need-returns-5
 unfolding firstBroken
-returns-5 c = rw (y31 (c .before .before .before .before .before .before .before .before), y32 (c .before .before .before .before .before .before), y33 (c .before .before .before .before), y34 (c .before .before), k35 (c .before) ∙ not-true (c .before .own-paths .result) (c .if5 .taken))
+returns-5 c =
+    let n = k35 (c .before) ∙ not-true (c .before .own-paths .result) (c .if5 .taken) in
+    rw (y31 (c .before .before .before .before .before .before .before .before), y32 (c .before .before .before .before .before .before), y33 (c .before .before .before .before), y34 (c .before .before), n)
 
 returns-6 : tie.Need-returns-6
 unfolding firstBroken
-returns-6 c = rw (y31 (c .before .before .before .before .before .before .before .before), y32 (c .before .before .before .before .before .before), y33 (c .before .before .before .before), y34 (c .before .before), k35 (c .before) ∙ not-false (c .before .own-paths .result) (c .if5 .left))
+returns-6 c =
+    let y = k35 (c .before) ∙ not-false (c .before .own-paths .result) (c .if5 .left) in
+    rw (y31 (c .before .before .before .before .before .before .before .before), y32 (c .before .before .before .before .before .before), y33 (c .before .before .before .before), y34 (c .before .before), y)
 
 pub first-broken-spec : {M : Type 1} → statement M
 first-broken-spec =

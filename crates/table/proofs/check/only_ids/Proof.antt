@@ -2,12 +2,14 @@
 use Prim.Native.Nat.{_-_, _≤_, _<_}
 use mathlib.Core.Path.{_≡_, refl, sym, _∙_}
 use mathlib.Core.Bool.{true, false}
+use mathlib.Core.List.{List}
 use native.Mathlib.Omega.{arith}
 use borrow.Author.Needs.{needs}
 use lib.ListN.{length, getD, drop}
 use Rattle.table.specs.Lists.{every}
 use Rattle.table.specs.Table.{partsOf, within}
 use Rattle.table.specs.Check.{isId, onlyIds}
+use Rattle.table.specs.declared.types.PathPart.{PathPart}
 use Rattle.table.specs.declared.types.PathPart.the-variants.{Id}
 use Rattle.table.proofs.Loops.{every-fails, every-next, every-end}
 use Rattle.table.proofs.check.only_ids.Statement.{statement}
@@ -18,6 +20,12 @@ Inv-loop parts path count i₀ i = (i ≤ count) × (onlyIds (within (partsOf pa
 
 abbrev μ-loop : tie.MeasureT-loop
 μ-loop parts path count i₀ i = count - i
+
+abbrev path : tie.At-loop Inv-loop μ-loop → List PathPart
+path c = within (partsOf (c .before .before .before .args .parts .now)) (c .before .before .before .args .path)
+
+reach : (c : tie.In-loop Inv-loop μ-loop) → c .before .loop .i < length (path (c .before))
+reach c = omega arith
 
 path-length-requires : tie.Need-path-length-requires Inv-loop μ-loop
 path-length-requires c κs = tt
@@ -35,11 +43,8 @@ enum-told c = search needs
 returns : tie.Need-returns Inv-loop μ-loop
 returns c =
     let t = c .before .before .before .before in
-    let a = t .before .before .before .args in
-    let L = within (partsOf (a .parts .now)) (a .path) in
-    let h : t .loop .i < length L = omega arith in
-    let e : isId (getD L (t .loop .i) (Id 0)) ≡ false = rw (← c .before .before .path-part .ensures, c .enum-told .given .1) in
-    sym (t .loop .inv .1 ∙ every-fails isId L (Id 0) (t .loop .i) h e)
+    let n : isId (getD (path t) (t .loop .i) (Id 0)) ≡ false = rw (← c .before .before .path-part .ensures, c .enum-told .given .1) in
+    sym (t .loop .inv .1 ∙ every-fails isId _ (Id 0) _ (reach (c .before .before .before)) n)
 
 enum-told-2 : tie.Need-enum-told-2 Inv-loop μ-loop
 enum-told-2 c = search needs
@@ -53,19 +58,13 @@ loop-less c = omega arith
 loop-again : tie.Need-loop-again Inv-loop μ-loop
 loop-again c =
     let t = c .before .before .before .before in
-    let a = t .before .before .before .args in
-    let L = within (partsOf (a .parts .now)) (a .path) in
-    let h : t .loop .i < length L = omega arith in
-    let e : isId (getD L (t .loop .i) (Id 0)) ≡ true = rw (← c .before .before .path-part .ensures, c .enum-told2 .given .1) in
-    (omega arith, t .loop .inv .1 ∙ every-next isId L (Id 0) (t .loop .i) h e)
+    let y : isId (getD (path t) (t .loop .i) (Id 0)) ≡ true = rw (← c .before .before .path-part .ensures, c .enum-told2 .given .1) in
+    (omega arith, t .loop .inv .1 ∙ every-next isId _ (Id 0) _ (reach (c .before .before .before)) y)
 
 returns-2 : tie.Need-returns-2 Inv-loop μ-loop
 returns-2 c =
-    let t = c .before in
-    let a = t .before .before .before .args in
-    let L = within (partsOf (a .parts .now)) (a .path) in
-    let h : length L ≤ t .loop .i = omega arith in
-    sym (t .loop .inv .1 ∙ every-end isId L (t .loop .i) h)
+    let h : length (path (c .before)) ≤ c .before .loop .i = omega arith in
+    sym (c .before .loop .inv .1 ∙ every-end isId _ _ h)
 
 pub only-ids-spec : {M : Type 1} → statement M
 only-ids-spec =

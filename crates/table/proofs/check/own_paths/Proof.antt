@@ -1,13 +1,14 @@
 -- `table::check::own_paths`. The invariant: each part passed is an ID whose own path is what stands before it. Assumes nothing.
 use Prim.Native.Nat.{_-_, _≤_, _<_}
 use mathlib.Core.Path.{_≡_, refl, sym, _∙_}
-use mathlib.Core.List.{[]}
+use mathlib.Core.List.{List, []}
 use borrow.Author.Tests.{not-true, not-false}
 use native.Mathlib.Omega.{arith}
 use borrow.Author.Needs.{needs}
 use lib.ListN.{length, getD, take, drop}
-use Rattle.table.specs.Table.{partsOf, within, tableOf, pathOf, samePath}
+use Rattle.table.specs.Table.{Entry, partsOf, within, tableOf, pathOf, samePath}
 use Rattle.table.specs.Check.{ownPaths}
+use Rattle.table.specs.declared.types.PathPart.{PathPart}
 use Rattle.table.specs.declared.types.PathPart.the-variants.{Id}
 use Rattle.table.proofs.Ranges.{within-front}
 use Rattle.table.proofs.Entries.{path-of}
@@ -16,26 +17,36 @@ use Rattle.table.proofs.check.own_paths.Statement.{statement}
 use Rattle.table.proofs.check.own_paths.Tie as tie
 
 abbrev Inv-loop : tie.InvT-loop
-Inv-loop entries parts path first count i₀ i = (i ≤ count) × (ownPaths (tableOf entries parts) [] (within (partsOf parts) path) ≡ ownPaths (tableOf entries parts) (take i (within (partsOf parts) path)) (drop i (within (partsOf parts) path)))
+Inv-loop entries parts path first count i₀ i =
+    (i ≤ count)
+    × (ownPaths (tableOf entries parts) [] (within (partsOf parts) path)
+    ≡ ownPaths (tableOf entries parts) (take i (within (partsOf parts) path)) (drop i (within (partsOf parts) path)))
 
 abbrev μ-loop : tie.MeasureT-loop
 μ-loop entries parts path first count i₀ i = count - i
 
+abbrev table : tie.At-loop Inv-loop μ-loop → List Entry
+table c = tableOf (c .before .before .before .before .args .entries .now) (c .before .before .before .before .args .parts .now)
+
+abbrev path : tie.At-loop Inv-loop μ-loop → List PathPart
+path c = within (partsOf (c .before .before .before .before .args .parts .now)) (c .before .before .before .before .args .path)
+
+reach : (c : tie.In-loop Inv-loop μ-loop) → c .before .loop .i < length (path (c .before))
+reach c = omega arith
+
 -- the part that was read is an ID
-part-is : (c : tie.After-id Inv-loop μ-loop) → getD (within (partsOf (c .before .before .before .before .before .before .before .before .args .parts .now)) (c .before .before .before .before .before .before .before .before .args .path)) (c .before .before .before .before .loop .i) (Id 0) ≡ Id (c .id .given .0 .0)
+part-is : (c : tie.After-id Inv-loop μ-loop) → getD (path (c .before .before .before .before)) (c .before .before .before .before .loop .i) (Id 0) ≡ Id (c .id .given .0 .0)
 part-is c = sym (c .before .before .path-part .ensures) ∙ c .id .given .1
 
 -- and its own path was compared with what stands before
 compared : (c : tie.After-same-path Inv-loop μ-loop)
-    → samePath (pathOf (tableOf (c .before .before .before .before .before .before .before .before .before .before .before .args .entries .now) (c .before .before .before .before .before .before .before .before .before .before .before .args .parts .now)) (c .before .before .before .id .given .0 .0))
-    (take (c .before .before .before .before .before .before .before .loop .i) (within (partsOf (c .before .before .before .before .before .before .before .before .before .before .before .args .parts .now)) (c .before .before .before .before .before .before .before .before .before .before .before .args .path)))
-    ≡ c .same-path .result
+    → samePath (pathOf (table (c .before .before .before .before .before .before .before)) (c .before .before .before .id .given .0 .0)) (take (c .before .before .before .before .before .before .before .loop .i) (path (c .before .before .before .before .before .before .before))) ≡ c .same-path .result
 compared c =
-    let a = c .before .before .before .before .before .before .before .before .before .before .before .args in
-    let L = within (partsOf (a .parts .now)) (a .path) in
-    let h : c .before .before .before .before .before .before .before .loop .i ≤ length L = omega arith in
-    rw (within-front (partsOf (a .parts .now)) (a .path) (c .before .before .before .before .before .before .before .loop .i) h, ← (path-of (a .entries .now) (a .parts .now) _ (c .before .get-path-by-id .ensures)))
-    (sym (c .same-path .ensures))
+    let t = c .before .before .before .before .before .before .before in
+    let a = t .before .before .before .before .args in
+    let h : t .loop .i ≤ length (path t) = omega arith in
+    let front = within-front (partsOf (a .parts .now)) (a .path) (t .loop .i) h in
+    rw (front, ← (path-of (a .entries .now) (a .parts .now) _ (c .before .get-path-by-id .ensures))) (sym (c .same-path .ensures))
 
 path-length-requires : tie.Need-path-length-requires Inv-loop μ-loop
 path-length-requires c κs = tt
@@ -57,24 +68,16 @@ same-path-requires c κs = tt
 
 returns : tie.Need-returns Inv-loop μ-loop
 returns c =
-    let t = c .before .before .before .before .before .before .before .before in
-    let a = t .before .before .before .before .args in
-    let T = tableOf (a .entries .now) (a .parts .now) in
-    let L = within (partsOf (a .parts .now)) (a .path) in
-    let h : t .loop .i < length L = omega arith in
-    sym (t .loop .inv .1 ∙ own-fails T L (Id 0) (t .loop .i) h (part-is (c .before .before .before .before)) (compared (c .before) ∙ not-true _ (c .if1 .taken)))
+    let n = compared (c .before) ∙ not-true _ (c .if1 .taken) in
+    sym (c .before .before .before .before .before .before .before .before .loop .inv .1 ∙ own-fails _ _ (Id 0) _ (reach (c .before .before .before .before .before .before .before)) (part-is (c .before .before .before .before)) n)
 
 enum-told : tie.Need-enum-told Inv-loop μ-loop
 enum-told c = search needs
 
 returns-2 : tie.Need-returns-2 Inv-loop μ-loop
 returns-2 c =
-    let t = c .before .before .before .before in
-    let a = t .before .before .before .before .args in
-    let T = tableOf (a .entries .now) (a .parts .now) in
-    let L = within (partsOf (a .parts .now)) (a .path) in
-    let h : t .loop .i < length L = omega arith in
-    sym (t .loop .inv .1 ∙ own-global T L (Id 0) (t .loop .i) h (sym (c .before .before .path-part .ensures) ∙ c .enum-told .given .1))
+    let g = sym (c .before .before .path-part .ensures) ∙ c .enum-told .given .1 in
+    sym (c .before .before .before .before .loop .inv .1 ∙ own-global _ _ (Id 0) _ (reach (c .before .before .before)) g)
 
 add-i : tie.Need-add-i Inv-loop μ-loop
 add-i c = omega arith
@@ -84,20 +87,13 @@ loop-less c = omega arith
 
 loop-again : tie.Need-loop-again Inv-loop μ-loop
 loop-again c =
-    let t = c .before .before .before .before .before .before .before .before in
-    let a = t .before .before .before .before .args in
-    let T = tableOf (a .entries .now) (a .parts .now) in
-    let L = within (partsOf (a .parts .now)) (a .path) in
-    let h : t .loop .i < length L = omega arith in
-    (omega arith, t .loop .inv .1 ∙ own-next T L (Id 0) (t .loop .i) h (part-is (c .before .before .before .before)) (compared (c .before) ∙ not-false _ (c .if1 .left)))
+    let y = compared (c .before) ∙ not-false _ (c .if1 .left) in
+    (omega arith, c .before .before .before .before .before .before .before .before .loop .inv .1 ∙ own-next _ _ (Id 0) _ (reach (c .before .before .before .before .before .before .before)) (part-is (c .before .before .before .before)) y)
 
 returns-3 : tie.Need-returns-3 Inv-loop μ-loop
 returns-3 c =
-    let t = c .before in
-    let a = t .before .before .before .before .args in
-    let L = within (partsOf (a .parts .now)) (a .path) in
-    let h : length L ≤ t .loop .i = omega arith in
-    sym (t .loop .inv .1 ∙ own-end (tableOf (a .entries .now) (a .parts .now)) L (t .loop .i) h)
+    let h : length (path (c .before)) ≤ c .before .loop .i = omega arith in
+    sym (c .before .loop .inv .1 ∙ own-end _ _ _ h)
 
 pub own-paths-spec : {M : Type 1} → statement M
 own-paths-spec =

@@ -1,9 +1,10 @@
 -- `table::lookup::look_up`. The invariant: no entry passed has the ID, so the first from here on is the first of all. Assumes nothing.
-use Prim.Native.Nat.{_-_, _≤_, _<_}
+use Prim.Native.Nat.{_-_, _*_, _/_, _≤_, _<_}
+use mathlib.Core.List.{List}
 use mathlib.Core.Path.{_≡_, refl, sym, ap, _∙_}
 use native.Mathlib.Omega.{arith}
 use lib.ListN.{length, getD, drop}
-use Rattle.table.specs.Table.{tableOf, unlisted, entryFor, specOf}
+use Rattle.table.specs.Table.{Entry, tableOf, unlisted, entryFor, specOf}
 use Rattle.table.proofs.Entries.{length-table, id-at, table-past, for-here, for-next, for-end}
 use Rattle.table.proofs.lookup.look_up.Statement.{statement}
 use Rattle.table.proofs.lookup.look_up.Tie as tie
@@ -13,6 +14,17 @@ Inv-loop entries parts id count i₀ i = (i ≤ count) × (entryFor (drop i (tab
 
 abbrev μ-loop : tie.MeasureT-loop
 μ-loop entries parts id count i₀ i = count - i
+
+abbrev table : tie.At-loop Inv-loop μ-loop → List Entry
+table c = tableOf (c .before .before .before .args .entries .now) (c .before .before .before .args .parts .now)
+
+reach : (c : tie.In-loop Inv-loop μ-loop) → c .before .loop .i < length (table (c .before))
+reach c = let a = c .before .before .before .before .args in rw (length-table (a .entries .now) (a .parts .now)) (omega arith)
+
+-- the ID that is read is that of the entry
+read : (c : tie.In-loop Inv-loop μ-loop)
+    → getD (table (c .before)) (c .before .loop .i) unlisted .id ≡ getD (c .before .before .before .before .args .entries .now) (4 * c .before .loop .i) 0
+read c = let a = c .before .before .before .before .args in id-at (a .entries .now) (a .parts .now) (c .before .loop .i) (omega arith)
 
 loop-holds : tie.Need-loop-holds Inv-loop μ-loop
 loop-holds c = (omega arith, refl)
@@ -31,12 +43,8 @@ spec-at-requires c κs = tt
 
 returns : tie.Need-returns Inv-loop μ-loop
 returns c =
-    let t = c .before .before .before .before in
-    let a = t .before .before .before .args in
-    let T = tableOf (a .entries .now) (a .parts .now) in
-    let h : t .loop .i < length T = rw (length-table (a .entries .now) (a .parts .now)) (omega arith) in
-    let e : getD T (t .loop .i) unlisted .id ≡ a .id = id-at (a .entries .now) (a .parts .now) (t .loop .i) (omega arith) ∙ c .before .if1 .taken in
-    c .spec-at .ensures ∙ ap specOf (sym (for-here T (a .id) (t .loop .i) h e) ∙ t .loop .inv .1)
+    let here = for-here _ _ _ (reach (c .before .before .before)) (read (c .before .before .before) ∙ c .before .if1 .taken) in
+    c .spec-at .ensures ∙ ap specOf (sym here ∙ c .before .before .before .before .loop .inv .1)
 
 add-i : tie.Need-add-i Inv-loop μ-loop
 add-i c = omega arith
@@ -45,13 +53,7 @@ loop-less : tie.Need-loop-less Inv-loop μ-loop
 loop-less c = omega arith
 
 loop-again : tie.Need-loop-again Inv-loop μ-loop
-loop-again c =
-    let t = c .before .before .before in
-    let a = t .before .before .before .args in
-    let T = tableOf (a .entries .now) (a .parts .now) in
-    let h : t .loop .i < length T = rw (length-table (a .entries .now) (a .parts .now)) (omega arith) in
-    let n : getD T (t .loop .i) unlisted .id ≡ a .id → ⊥ = λ e. c .if1 .left (sym (id-at (a .entries .now) (a .parts .now) (t .loop .i) (omega arith)) ∙ e) in
-    (omega arith, sym (for-next T (a .id) (t .loop .i) h n) ∙ t .loop .inv .1)
+loop-again c = (omega arith, sym (for-next _ _ _ (reach (c .before .before)) (λ e. c .if1 .left (sym (read (c .before .before)) ∙ e))) ∙ c .before .before .before .loop .inv .1)
 
 spec-at-requires-2 : tie.Need-spec-at-requires-2 Inv-loop μ-loop
 spec-at-requires-2 c κs = tt
@@ -60,9 +62,10 @@ returns-2 : tie.Need-returns-2 Inv-loop μ-loop
 returns-2 c =
     let t = c .before .before in
     let a = t .before .before .before .args in
-    let T = tableOf (a .entries .now) (a .parts .now) in
-    let h : length T ≤ t .loop .i = rw (length-table (a .entries .now) (a .parts .now)) (omega arith) in
-    c .spec-at2 .ensures ∙ ap specOf (table-past (a .entries .now) (a .parts .now) _ (omega arith) ∙ sym (for-end T (a .id) (t .loop .i) h) ∙ t .loop .inv .1)
+    let all = length (a .entries .now) / 4 in
+    let h : length (table t) ≤ t .loop .i = rw (length-table (a .entries .now) (a .parts .now)) (omega arith) in
+    let none = table-past (a .entries .now) (a .parts .now) all (omega arith) in
+    c .spec-at2 .ensures ∙ ap specOf (none ∙ sym (for-end _ _ _ h) ∙ t .loop .inv .1)
 
 pub look-up-spec : {M : Type 1} → statement M
 look-up-spec =

@@ -31,8 +31,8 @@ same-bound-requires-2 c κs = search needs
 returns : tie.Need-returns
 unfolding samePart
 returns c =
-    rw (c .before .before .before .before .before .before .before .a2 .given .1, c .before .before .before .before .b2 .given .1, ← c .before .before .same-bound .ensures, c .before .if1 .taken)
-    (c .same-bound2 .ensures)
+    rw (c .before .before .before .before .before .before .before .a2 .given .1, c .before .before .before .before .b2 .given .1)
+    (rw (← c .before .before .same-bound .ensures, c .before .if1 .taken) (c .same-bound2 .ensures))
 
 returns-2 : tie.Need-returns-2
 unfolding samePart
@@ -48,7 +48,9 @@ returns-4 c = rw (c .before .before .before .a2 .given .1, c .enum-told2 .given 
 
 returns-5 : tie.Need-returns-5
 unfolding samePart
-returns-5 c = rw (c .before .before .before .before .before .before .a2 .given .1, c .before .before .before .b2 .given .1, ← c .before .same-bound .ensures, c .if1 .left)
+returns-5 c =
+    rw (c .before .before .before .before .before .before .a2 .given .1, c .before .before .before .b2 .given .1)
+    (rw (← c .before .same-bound .ensures, c .if1 .left))
 
 pub same-part-spec : {M : Type 1} → statement M
 same-part-spec =

@@ -1,7 +1,8 @@
 -- `table::shape::good_entries`. The invariant: each entry passed is good. Assumes nothing.
 use Prim.Native.Nat.{ℕ, _-_, _≤_, _<_}
 use mathlib.Core.Path.{_≡_, refl, sym, _∙_}
-use mathlib.Core.Bool.{Bool, true, false}
+use mathlib.Core.List.{List}
+use mathlib.Core.Bool.{Bool, true}
 use borrow.Author.Tests.{not-true, not-false}
 use native.Mathlib.Omega.{arith}
 use lib.ListN.{length, getD, drop}
@@ -21,6 +22,16 @@ Inv-loop entries all count i₀ i = (i ≤ count) × (goodEntries all entries �
 
 abbrev μ-loop : tie.MeasureT-loop
 μ-loop entries all count i₀ i = count - i
+
+abbrev tests : tie.At-loop Inv-loop μ-loop → List Bool
+tests c = fours (good (c .before .before .args .all)) (c .before .before .args .entries .now)
+
+reach : (c : tie.In-loop Inv-loop μ-loop) → c .before .loop .i < length (tests (c .before))
+reach c = rw (length-fours (good (c .before .before .before .args .all)) (c .before .before .before .args .entries .now)) (omega arith)
+
+-- the test of the entry that was read
+read : (c : tie.After-good-entry Inv-loop μ-loop) → getD (tests (c .before .before .before .before .before)) (c .before .before .before .before .before .loop .i) true ≡ c .good-entry .result
+read c = fours-at (good (c .before .before .before .before .before .before .before .args .all)) _ _ true (omega arith) ∙ sym (c .good-entry .ensures)
 
 loop-holds : tie.Need-loop-holds Inv-loop μ-loop
 unfolding goodEntries
@@ -67,12 +78,8 @@ good-entry-requires c κs = tt
 
 returns : tie.Need-returns Inv-loop μ-loop
 returns c =
-    let t = c .before .before .before .before .before .before in
-    let f = good (t .before .before .args .all) in
-    let es = t .before .before .args .entries .now in
-    let h : t .loop .i < length (fours f es) = rw (length-fours f es) (omega arith) in
-    let e : getD (fours f es) (t .loop .i) true ≡ false = fours-at f es (t .loop .i) true (omega arith) ∙ sym (c .before .good-entry .ensures) ∙ not-true _ (c .if1 .taken) in
-    sym (t .loop .inv .1 ∙ every-fails (λ (good : Bool). good) (fours f es) true (t .loop .i) h e)
+    let n = read (c .before) ∙ not-true _ (c .if1 .taken) in
+    sym (c .before .before .before .before .before .before .loop .inv .1 ∙ every-fails _ _ true _ (reach (c .before .before .before .before .before)) n)
 
 add-i : tie.Need-add-i Inv-loop μ-loop
 add-i c = omega arith
@@ -82,20 +89,14 @@ loop-less c = omega arith
 
 loop-again : tie.Need-loop-again Inv-loop μ-loop
 loop-again c =
-    let t = c .before .before .before .before .before .before in
-    let f = good (t .before .before .args .all) in
-    let es = t .before .before .args .entries .now in
-    let h : t .loop .i < length (fours f es) = rw (length-fours f es) (omega arith) in
-    let e : getD (fours f es) (t .loop .i) true ≡ true = fours-at f es (t .loop .i) true (omega arith) ∙ sym (c .before .good-entry .ensures) ∙ not-false _ (c .if1 .left) in
-    (omega arith, t .loop .inv .1 ∙ every-next (λ (good : Bool). good) (fours f es) true (t .loop .i) h e)
+    let y = read (c .before) ∙ not-false _ (c .if1 .left) in
+    (omega arith, c .before .before .before .before .before .before .loop .inv .1 ∙ every-next _ _ true _ (reach (c .before .before .before .before .before)) y)
 
 returns-2 : tie.Need-returns-2 Inv-loop μ-loop
 returns-2 c =
-    let t = c .before in
-    let f = good (t .before .before .args .all) in
-    let es = t .before .before .args .entries .now in
-    let h : length (fours f es) ≤ t .loop .i = rw (length-fours f es) (omega arith) in
-    sym (t .loop .inv .1 ∙ every-end (λ (good : Bool). good) (fours f es) (t .loop .i) h)
+    let a = c .before .before .before .args in
+    let h : length (tests (c .before)) ≤ c .before .loop .i = rw (length-fours (good (a .all)) (a .entries .now)) (omega arith) in
+    sym (c .before .loop .inv .1 ∙ every-end _ _ _ h)
 
 pub good-entries-spec : {M : Type 1} → statement M
 good-entries-spec =

@@ -1,7 +1,8 @@
 -- `table::shape::good_parts`. The invariant: each part passed is good. Assumes nothing.
 use Prim.Native.Nat.{_-_, _≤_, _<_}
 use mathlib.Core.Path.{_≡_, refl, sym, _∙_}
-use mathlib.Core.Bool.{Bool, true, false}
+use mathlib.Core.List.{List}
+use mathlib.Core.Bool.{Bool, true}
 use borrow.Author.Tests.{not-true, not-false}
 use native.Mathlib.Omega.{arith}
 use lib.ListN.{length, getD, drop}
@@ -18,6 +19,16 @@ Inv-loop parts count i₀ i = (i ≤ count) × (goodParts parts ≡ every (λ (g
 
 abbrev μ-loop : tie.MeasureT-loop
 μ-loop parts count i₀ i = count - i
+
+abbrev tests : tie.At-loop Inv-loop μ-loop → List Bool
+tests c = threes goodPart (c .before .before .args .parts .now)
+
+reach : (c : tie.In-loop Inv-loop μ-loop) → c .before .loop .i < length (tests (c .before))
+reach c = rw (length-threes goodPart (c .before .before .before .args .parts .now)) (omega arith)
+
+-- the test of the part that was read
+read : (c : tie.After-good-part Inv-loop μ-loop) → getD (tests (c .before .before .before .before .before)) (c .before .before .before .before .before .loop .i) true ≡ c .good-part .result
+read c = threes-at goodPart _ _ true (omega arith) ∙ sym (c .good-part .ensures)
 
 loop-holds : tie.Need-loop-holds Inv-loop μ-loop
 unfolding goodParts
@@ -61,11 +72,8 @@ good-part-requires c κs = tt
 
 returns : tie.Need-returns Inv-loop μ-loop
 returns c =
-    let t = c .before .before .before .before .before .before in
-    let ps = t .before .before .args .parts .now in
-    let h : t .loop .i < length (threes goodPart ps) = rw (length-threes goodPart ps) (omega arith) in
-    let e : getD (threes goodPart ps) (t .loop .i) true ≡ false = threes-at goodPart ps (t .loop .i) true (omega arith) ∙ sym (c .before .good-part .ensures) ∙ not-true _ (c .if1 .taken) in
-    sym (t .loop .inv .1 ∙ every-fails (λ (good : Bool). good) (threes goodPart ps) true (t .loop .i) h e)
+    let n = read (c .before) ∙ not-true _ (c .if1 .taken) in
+    sym (c .before .before .before .before .before .before .loop .inv .1 ∙ every-fails _ _ true _ (reach (c .before .before .before .before .before)) n)
 
 add-i : tie.Need-add-i Inv-loop μ-loop
 add-i c = omega arith
@@ -75,18 +83,13 @@ loop-less c = omega arith
 
 loop-again : tie.Need-loop-again Inv-loop μ-loop
 loop-again c =
-    let t = c .before .before .before .before .before .before in
-    let ps = t .before .before .args .parts .now in
-    let h : t .loop .i < length (threes goodPart ps) = rw (length-threes goodPart ps) (omega arith) in
-    let e : getD (threes goodPart ps) (t .loop .i) true ≡ true = threes-at goodPart ps (t .loop .i) true (omega arith) ∙ sym (c .before .good-part .ensures) ∙ not-false _ (c .if1 .left) in
-    (omega arith, t .loop .inv .1 ∙ every-next (λ (good : Bool). good) (threes goodPart ps) true (t .loop .i) h e)
+    let y = read (c .before) ∙ not-false _ (c .if1 .left) in
+    (omega arith, c .before .before .before .before .before .before .loop .inv .1 ∙ every-next _ _ true _ (reach (c .before .before .before .before .before)) y)
 
 returns-2 : tie.Need-returns-2 Inv-loop μ-loop
 returns-2 c =
-    let t = c .before in
-    let ps = t .before .before .args .parts .now in
-    let h : length (threes goodPart ps) ≤ t .loop .i = rw (length-threes goodPart ps) (omega arith) in
-    sym (t .loop .inv .1 ∙ every-end (λ (good : Bool). good) (threes goodPart ps) (t .loop .i) h)
+    let h : length (tests (c .before)) ≤ c .before .loop .i = rw (length-threes goodPart (c .before .before .before .args .parts .now)) (omega arith) in
+    sym (c .before .loop .inv .1 ∙ every-end _ _ _ h)
 
 pub good-parts-spec : {M : Type 1} → statement M
 good-parts-spec =

@@ -40,12 +40,15 @@ good-entries-requires c κs = search needs
 returns-4 : tie.Need-returns-4
 unfolding goodShape
 returns-4 c =
-    simp (none-left _ (c .before .before .before .before .before .before .if1 .left), none-left _ (c .before .before .before .before .before .if2 .left), le-leb _ _ (c .before .before .before .before .if3 .left), ← c .before .before .before .good-parts .ensures, c .before .before .if4 .taken, ← c .before .wide .ensures)
-    (c .good-entries .ensures)
+    let t = c .before .before .before .before in
+    rw (none-left _ (t .before .before .if1 .left), none-left _ (t .before .if2 .left), le-leb _ _ (t .if3 .left), ← c .before .before .before .good-parts .ensures, c .before .before .if4 .taken)
+    (rw (← c .before .wide .ensures) (c .good-entries .ensures))
 
 returns-5 : tie.Need-returns-5
 unfolding goodShape
-returns-5 c = simp (none-left _ (c .before .before .before .before .if1 .left), none-left _ (c .before .before .before .if2 .left), le-leb _ _ (c .before .before .if3 .left), ← c .before .good-parts .ensures, c .if4 .left)
+returns-5 c =
+    let t = c .before .before in
+    rw (none-left _ (t .before .before .if1 .left), none-left _ (t .before .if2 .left), le-leb _ _ (t .if3 .left), ← c .before .good-parts .ensures, c .if4 .left)
 
 pub good-shape-spec : {M : Type 1} → statement M
 good-shape-spec =
