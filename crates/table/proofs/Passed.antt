@@ -1,7 +1,7 @@
 -- What the table check says: it passes a table exactly where the five rules hold of every entry, and a fault that it names is the lowest
 -- entry that breaks a rule, with the first rule that it breaks. Later proofs cite `PassedTable` and no text of the check. Assumes nothing.
 use Prim.Native.Nat.{ℕ, zero, suc, _+_, _≤_, _<_}
-use mathlib.Core.Path.{_≡_, refl, sym, ap, subst, _∙_}
+use mathlib.Core.Path.{_≡_, refl, sym, ap, ap₂, subst, _∙_}
 use mathlib.Core.Bool.{Bool, true, false, true≢false, cond, _&&_, and-eq-true-iff}
 use mathlib.Core.List.{List, [], _∷_, List·Memᴰ, List·Memᴰ·head, List·Memᴰ·tail, List·Memᴰ·cases-cons, List·Memᴰ·not-nil}
 use mathlib.Core.Logic.{⊎-elim}
@@ -9,7 +9,7 @@ use borrow.Author.Tests.{ltb-true}
 use native.Mathlib.Decide.{decLe}
 use native.Mathlib.Nat.{eq-or-lt-of-le}
 use native.Mathlib.Omega.{arith}
-use lib.Dec.{ltb}
+use lib.Dec.{ltb, eqb}
 use lib.ListN.{length}
 use Rattle.table.specs.Lists.{every}
 use Rattle.table.specs.Table.{Entry, tableOf}
@@ -129,6 +129,37 @@ checks t (suc n) i = go (judged t i) refl (checkFrom t n (i + 1)) (checks t n (i
 all-checked : (t : List Entry) (c : Checked) → checkFrom t (length t) 0 ≡ c → Checks t (length t) 0 c
 all-checked t c e = subst (Checks t (length t) 0) e (checks t (length t) 0)
 
+passed-kept : (t : List Entry) → PassedTable t → (i : ℕ) → i < length t → (r : Rule) → Kept t i r
+passed-kept t p i h NotAVint = p .allowed i h
+passed-kept t p i h Repeated = λ j l q. let z : j ≡ i = p .once j i (omega arith) h q in omega arith
+passed-kept t p i h GlobalInMaster = p .of-ids i h
+passed-kept t p i h NoMaster = p .masters i h
+passed-kept t p i h OtherPath = p .own-paths i h
+
+-- ---- two lowest faults are one
+
+ruleOf : ℕ → Rule
+ruleOf n =
+    cond (eqb n 31) NotAVint (cond (eqb n 32) Repeated (cond (eqb n 33) GlobalInMaster (cond (eqb n 34) NoMaster OtherPath)))
+
+back : (r : Rule) → ruleOf (ruleNumber r) ≡ r
+unfolding ruleOf
+back NotAVint = refl
+back Repeated = refl
+back GlobalInMaster = refl
+back NoMaster = refl
+back OtherPath = refl
+
+fault-one : (t : List Entry) (q r : Rule) (k i : ℕ) → LowestFault t q k → LowestFault t r i → Fault q k ≡ Fault r i
+fault-one t q r k i g f =
+    let under : k < i → ⊥ = λ l. g .broken (f .lowest k l q) in
+    let over : i < k → ⊥ = λ l. f .broken (g .lowest i l r) in
+    let e : k ≡ i = omega arith in
+    let before : ruleNumber q < ruleNumber r → ⊥ = λ l. g .broken (subst (λ (j : ℕ). Kept t j q) (sym e) (f .first q l)) in
+    let after : ruleNumber r < ruleNumber q → ⊥ = λ l. f .broken (subst (λ (j : ℕ). Kept t j r) e (g .first r l)) in
+    let n : ruleNumber q ≡ ruleNumber r = omega arith in
+    ap₂ Fault (sym (back q) ∙ ap ruleOf n ∙ back r) e
+
 -- ---- the check
 
 fault-not-bad : {r : Rule} {i : ℕ} → Fault r i ≡ BadShape → ⊥
@@ -182,20 +213,13 @@ module _ (es ps : List ℕ) where
       t : List Entry
       t = tableOf es ps
 
-      kept : (i : ℕ) → i < length t → (r : Rule) → Kept t i r
-      kept i h NotAVint = p .allowed i h
-      kept i h Repeated = λ j l q. let z : j ≡ i = p .once j i (omega arith) h q in omega arith
-      kept i h GlobalInMaster = p .of-ids i h
-      kept i h NoMaster = p .masters i h
-      kept i h OtherPath = p .own-paths i h
-
       go : (c : Checked) → checkFrom t (length t) 0 ≡ c → checkFrom t (length t) 0 ≡ Passed
       go BadShape e = absurd (all-checked t BadShape e)
       go Passed e = e
       go (Fault r k) e =
           let f = all-checked t (Fault r k) e in
           let h : k < length t = omega arith in
-          absurd (broken-entry t k h (f .2) .0 (kept k h r))
+          absurd (broken-entry t k h (f .2) .0 (passed-kept t p k h r))
 
   -- a fault that is named is the lowest, and its rule the first
   pub fault-is : {r : Rule} {i : ℕ} → checkTable es ps ≡ Fault r i → LowestFault (tableOf es ps) r i
@@ -217,3 +241,12 @@ module _ (es ps : List ℕ) where
 
       here : (Kept t i r → ⊥) × ((s : Rule) → ruleNumber s < ruleNumber r → Kept t i s)
       here = broken-entry t i there (f .2)
+
+  -- and where there is one, the check names it
+  pub fault-where : {r : Rule} {i : ℕ} → goodShape es ps ≡ true → LowestFault (tableOf es ps) r i → checkTable es ps ≡ Fault r i
+  fault-where {r} {i} good f = go (checkTable es ps) refl
+    where
+      go : (c : Checked) → checkTable es ps ≡ c → checkTable es ps ≡ Fault r i
+      go BadShape e = absurd (all-checked (tableOf es ps) BadShape (sym (shape-good good) ∙ e))
+      go Passed e = absurd (f .broken (passed-kept (tableOf es ps) (passed-gives e) i (f .there) r))
+      go (Fault q k) e = e ∙ fault-one (tableOf es ps) q r k i (fault-is e) f

@@ -1,11 +1,11 @@
 // The table check: the lowest faulty entry and its first broken rule.
 
 ghost use mathlib.Core.Path.{_≡_};
+ghost use mathlib.Core.List.{[]};
 ghost use Prim.Native.Nat.{_/_, _≤_, _<_};
-ghost use lib.ListN.{length, getD, take};
+ghost use lib.ListN.{length, take};
 ghost use Rattle.table.specs.Table.{partsOf, within, tableOf};
 ghost use Rattle.table.specs.Check.{ruleNumber, checkedNumber, allowedId, listed, onlyIds, masterOfIds, masterOrGlobal, allMasters, ownPaths, judged, checkTable};
-ghost use mathlib.Core.List.{[]};
 use crate::entry::spec_at;
 use crate::lookup::get_path_by_id;
 use crate::lookup::get_tag_data_type;
@@ -45,13 +45,14 @@ pub fn checked_number(checked: Checked) -> u64
     }
 }
 
+// Rule 31.
 fn allowed_id(id: u64) -> bool
     ensures { λ r. ⌜ r ≡ allowedId id ⌝ }
 {
     is_vint(id)
 }
 
-// Whether one of the first n entries has this ID.
+// Rule 32: whether one of the first n entries has this ID.
 fn listed_before(entries: &[u64], parts: &[u64], id: u64, n: usize) -> bool
     requires { ⌜ n ≤ length (now entries) / 4 ⌝ }
     ensures { λ r. ⌜ r ≡ listed id (take n (tableOf (now (entries .entry)) (now (parts .entry)))) ⌝ }
@@ -80,7 +81,7 @@ fn only_ids(parts: &[u64], path: Path) -> bool
     true
 }
 
-// A Global is no ID, so rule 34 says nothing of it.
+// Rule 34 of one part: a Global is no ID, and passes.
 fn master_or_global(entries: &[u64], parts: &[u64], part: PathPart) -> bool
     ensures { λ r. ⌜ r ≡ masterOrGlobal (tableOf (now (entries .entry)) (now (parts .entry))) part ⌝ }
 {
@@ -104,6 +105,7 @@ fn all_masters(entries: &[u64], parts: &[u64], path: Path) -> bool
     true
 }
 
+// Rule 35, up to the first Global.
 fn own_paths(entries: &[u64], parts: &[u64], path: Path) -> bool
     ensures { λ r. ⌜ r ≡ ownPaths (tableOf (now (entries .entry)) (now (parts .entry))) [] (within (partsOf (now (parts .entry))) path) ⌝ }
 {
@@ -127,6 +129,7 @@ fn own_paths(entries: &[u64], parts: &[u64], path: Path) -> bool
     true
 }
 
+// Rule 33.
 fn master_of_ids(parts: &[u64], kind: TagDataType, path: Path) -> bool
     ensures { λ r. ⌜ r ≡ masterOfIds kind (within (partsOf (now (parts .entry))) path) ⌝ }
 {
@@ -136,6 +139,7 @@ fn master_of_ids(parts: &[u64], kind: TagDataType, path: Path) -> bool
     true
 }
 
+// Entry i, by the rules in their order.
 fn first_broken(entries: &[u64], parts: &[u64], i: usize) -> Judged
     requires { ⌜ i < length (now entries) / 4 ⌝ }
     ensures { λ r. ⌜ r ≡ judged (tableOf (now (entries .entry)) (now (parts .entry))) i ⌝ }

@@ -1,1 +1,3 @@
 pub mod Fitting
+pub mod Told
+pub mod Unique

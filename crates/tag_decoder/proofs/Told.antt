@@ -1,0 +1,97 @@
+-- What a user of `decode` is told: a refusal and an End take no byte, a refusal changes at most the settling note, no more is taken than was lent, and the
+-- position moves by what was taken. Assumes nothing.
+use Prim.Native.Nat.{ℕ, zero, suc, _+_, _≤_, _<_}
+use mathlib.Core.Path.{_≡_, refl, sym, ap, _∙_}
+use mathlib.Core.List.{List}
+use native.Mathlib.Omega.{arith}
+use lib.ListN.{length}
+use Rattle.tools.specs.Bytes.{Octets}
+use Rattle.decoder_state.specs.State.{withOpen, withWaiting, withNotes, settledTo, opened, closedTo, handedOut}
+use Rattle.decoder_state.specs.OneCall.{noted, decide, move, apply, decode}
+use Rattle.decoder_state.specs.declared.types.Action.{Action}
+use Rattle.decoder_state.specs.declared.types.Action.the-variants as act
+use Rattle.decoder_state.specs.declared.types.Answer.{Answer}
+use Rattle.decoder_state.specs.declared.types.Answer.the-variants as answer
+use Rattle.decoder_state.specs.declared.types.Event.the-variants.{Start, End, Data}
+use Rattle.decoder_state.specs.declared.types.Note.{Note}
+use Rattle.decoder_state.specs.declared.types.Note.the-variants.{NoNote, Settle}
+use Rattle.decoder_state.specs.declared.types.Refusal.{Refusal}
+use Rattle.decoder_state.specs.declared.types.TagDecoder.{TagDecoder}
+use Rattle.tag_decoder.specs.Fits.{Fits}
+use Rattle.tag_decoder.proofs.Fitting.{decide-fits}
+
+no-answer : {A : Type 0} → _≡_ {A = ℕ} 0 1 → A
+no-answer e = absurd (omega arith)
+
+-- ---- one action
+
+taken-within : (d : TagDecoder) (n : ℕ) (a : Action) → Fits d n a → move d a .taken ≤ n
+unfolding Fits move
+taken-within d n (act.Refuse e) f = omega arith
+taken-within d n act.NeedMore f = omega arith
+taken-within d n act.Finish f = omega arith
+taken-within d n act.HandOut f = omega arith
+taken-within d n (act.Close k) f = omega arith
+taken-within d n (act.Start x z len) f = f .1
+taken-within d n (act.Data x v m) f = f .0
+
+position-moves : (d : TagDecoder) (a : Action) → move d a .state .position ≡ d .position + move d a .taken
+unfolding move withOpen withWaiting withNotes opened closedTo handedOut
+position-moves d (act.Refuse e) = omega arith
+position-moves d act.NeedMore = omega arith
+position-moves d act.Finish = omega arith
+position-moves d act.HandOut = omega arith
+position-moves d (act.Close k) = omega arith
+position-moves d (act.Start x z len) = refl
+position-moves d (act.Data x v m) = refl
+
+refusal-stays : (d : TagDecoder) (a : Action) {r : Refusal} → move d a .answer ≡ answer.Refused r → (move d a .taken ≡ 0) × (move d a .state ≡ d)
+unfolding move
+refusal-stays d (act.Refuse e) q = (refl, refl)
+refusal-stays d act.NeedMore q = let z : _≡_ {A = ℕ} 0 1 = cc in no-answer z
+refusal-stays d act.Finish q = let z : _≡_ {A = ℕ} 0 1 = cc in no-answer z
+refusal-stays d act.HandOut q = let z : _≡_ {A = ℕ} 0 1 = cc in no-answer z
+refusal-stays d (act.Close k) q = let z : _≡_ {A = ℕ} 0 1 = cc in no-answer z
+refusal-stays d (act.Start x y l) q = let z : _≡_ {A = ℕ} 0 1 = cc in no-answer z
+refusal-stays d (act.Data x v m) q = let z : _≡_ {A = ℕ} 0 1 = cc in no-answer z
+
+end-takes-none : (d : TagDecoder) (a : Action) {x o : ℕ} → move d a .answer ≡ answer.Event (End x o) → move d a .taken ≡ 0
+unfolding move
+end-takes-none d (act.Refuse e) q = refl
+end-takes-none d act.NeedMore q = refl
+end-takes-none d act.Finish q = refl
+end-takes-none d act.HandOut q = refl
+end-takes-none d (act.Close k) q = refl
+end-takes-none d (act.Start x y l) q = let z : _≡_ {A = ℕ} 0 1 = cc in no-answer z
+end-takes-none d (act.Data x v m) q = let z : _≡_ {A = ℕ} 0 1 = cc in no-answer z
+
+note-keeps-position : (ps : List ℕ) (d : TagDecoder) (note : Note) → noted ps d note .position ≡ d .position
+unfolding noted settledTo withOpen withNotes
+note-keeps-position ps d NoNote = refl
+note-keeps-position ps d (Settle path) = refl
+
+-- ---- one call
+
+module _ (es ps : List ℕ) (d : TagDecoder) (s : List ℕ) where
+  -- no more is taken than was lent
+  pub takes-within : Octets s → decode es ps d s .taken ≤ length s
+  unfolding apply
+  takes-within byte = taken-within _ (length s) _ (decide-fits es ps d s byte .action)
+
+  -- the position moves by what was taken
+  pub moves-on : decode es ps d s .state .position ≡ d .position + decode es ps d s .taken
+  unfolding apply
+  moves-on =
+      let a = decide es ps d s in
+      position-moves (noted ps d (a .note)) (a .action) ∙ ap (λ (p : ℕ). p + move (noted ps d (a .note)) (a .action) .taken) (note-keeps-position ps d (a .note))
+
+  -- a refusal takes nothing and changes at most the settling note
+  pub refusal-changes-nothing : {r : Refusal} → decode es ps d s .answer ≡ answer.Refused r
+      → (decode es ps d s .taken ≡ 0) × (decode es ps d s .state ≡ noted ps d (decide es ps d s .note))
+  unfolding apply
+  refusal-changes-nothing q = refusal-stays (noted ps d (decide es ps d s .note)) (decide es ps d s .action) q
+
+  -- an End takes nothing
+  pub end-takes-nothing : {x o : ℕ} → decode es ps d s .answer ≡ answer.Event (End x o) → decode es ps d s .taken ≡ 0
+  unfolding apply
+  end-takes-nothing q = end-takes-none (noted ps d (decide es ps d s .note)) (decide es ps d s .action) q
