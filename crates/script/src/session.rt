@@ -1,11 +1,14 @@
 // What a line leaves for the lines after it.
 
 ghost use mathlib.Core.Path.{_≡_};
+use decoder_state::types::TagDecoder;
+use script_decoder::calls::first_decoder;
 use script_table::lending::LentTable;
 use script_table::lending::empty_table;
 
 pub struct Session {
     pub table: LentTable,
+    pub decoder: TagDecoder,
 }
 
 // The session after a line, and how many bytes the line's answer has.
@@ -18,5 +21,6 @@ pub fn new_session() -> Session
     ensures { λ r. ⌜ (r .table .entries ≡ 0) × (r .table .parts ≡ 0) ⌝ }
 {
     let table = empty_table();
-    Session { table }
+    let decoder = first_decoder();
+    Session { table, decoder }
 }
