@@ -2,6 +2,7 @@
 //! Picks a telling sample of the calls in FOLDER/NAME.calls and writes it to CALLS, and what ours must answer to ANSWERS.
 //! A short script is taken whole. Of the others the same number is taken of each class of calls.
 
+mod decoder_sample;
 mod number_class;
 mod table_class;
 mod table_sample;
@@ -30,9 +31,12 @@ fn main() -> io::Result<()> {
     let folder = PathBuf::from(next());
     let mut calls_file = BufWriter::new(File::create(next())?);
     let mut answers_file = BufWriter::new(File::create(next())?);
-    let (on_tables, on_numbers): (Vec<String>, Vec<String>) = arguments.partition(|name| name.starts_with("table"));
+    let (on_decoders, others): (Vec<String>, Vec<String>) = arguments.partition(|name| name.starts_with("decoder"));
+    let (on_tables, on_numbers): (Vec<String>, Vec<String>) =
+        others.into_iter().partition(|name| name.starts_with("table"));
     let mut picked = sample(&folder, &on_numbers)?;
     picked.extend(table_sample::sample(&folder, &on_tables)?);
+    picked.extend(decoder_sample::sample(&folder, &on_decoders)?);
     for Answered { call, answer, .. } in picked {
         writeln!(calls_file, "{call}")?;
         writeln!(answers_file, "{answer}")?;
@@ -76,6 +80,7 @@ fn expected_answer(listing: &mut Listing, call: String, rust: &str) -> Answered 
     };
     let class = match call.split(' ').next() {
         Some("table" | "check" | "ended" | "path") => table_class::class(listing.table(), &call, &answer),
+        Some("new" | "allow" | "max" | "decode" | "eof" | "recover" | "st" | "set") => String::new(),
         _ => number_class::class(&call, &answer),
     };
     Answered { call, answer, class }
