@@ -18,7 +18,7 @@ pub fn generate(folder: &Path, prng: &mut Prng) -> io::Result<()> {
     values(folder, prng)
 }
 
-/// Texts: every one and two bytes, the limits of longer characters, and characters at every place of longer texts.
+/// Texts: every one and two bytes, every three of the limits of RFC 3629's ranges, the limits of longer characters, and characters at every place of longer texts.
 fn texts(folder: &Path, prng: &mut Prng) -> io::Result<()> {
     let mut player = Player::create(folder, "decoder-text")?;
     lend_document_table(&mut player)?;
@@ -27,6 +27,13 @@ fn texts(folder: &Path, prng: &mut Prng) -> io::Result<()> {
         0xDF, 0xE0, 0xE1, 0xEC, 0xED, 0xEE, 0xEF, 0xF0, 0xF1, 0xF3, 0xF4, 0xF5, 0xF8, 0xFF,
     ];
     for text in strings(&(0..=0xFF).collect::<Vec<u8>>(), 0, 2) {
+        one_text(&mut player, &text)?;
+    }
+    let limits = [
+        0x00, 0x41, 0x7F, 0x80, 0x8F, 0x90, 0x9F, 0xA0, 0xBF, 0xC0, 0xC1, 0xC2, 0xDF, 0xE0, 0xE1, 0xEC, 0xED, 0xEE,
+        0xEF, 0xF0, 0xF1, 0xF3, 0xF4, 0xF5, 0xFF,
+    ];
+    for text in strings(&limits, 3, 3) {
         one_text(&mut player, &text)?;
     }
     for first in lead {
