@@ -13,9 +13,43 @@ use std::path::Path;
 const TEXTS: usize = 20_000;
 const VALUES: usize = 20_000;
 
+/// RFC 3629's examples (section 7), and each limit of the ranges of section 4 from both sides, cut characters among them.
+#[rustfmt::skip]
+const NAMED_TEXTS: [&[u8]; 60] = [
+    b"", b"A", b"\x00", b"\x7F",
+    b"A\xE2\x89\xA2\xCE\x91.", b"\xED\x95\x9C\xEA\xB5\xAD\xEC\x96\xB4", b"\xE6\x97\xA5\xE6\x9C\xAC\xE8\xAA\x9E",
+    b"\xEF\xBB\xBF\xF0\xA3\x8E\xB4",
+    b"\x80", b"\xBF", b"A\x80", b"\xFE", b"\xFF", b"\xF8\x88\x80\x80\x80", b"\xFC\x84\x80\x80\x80\x80",
+    b"\xC0\x80", b"\xC1\xBF", b"\xC2\x80", b"\xDF\xBF", b"\xC2\x7F", b"\xC2\xC0", b"\xC2", b"\xDF\x41",
+    b"\xE0\x80\x80", b"\xE0\x9F\xBF", b"\xE0\xA0\x80", b"\xE0\xBF\xBF", b"\xE0\xA0", b"\xE0", b"\xE1\x80\x80",
+    b"\xE1\x7F\x80", b"\xE1\x80\x7F", b"\xE1\x80\xC0", b"\xEC\xBF\xBF", b"\xEC\xC0\x80",
+    b"\xED\x80\x80", b"\xED\x9F\xBF", b"\xED\xA0\x80", b"\xED\xBF\xBF", b"\xED\xA1\x8C\xED\xBE\xB4",
+    b"\xEE\x80\x80", b"\xEF\xBF\xBF", b"\xEF\xBF",
+    b"\xF0\x80\x80\x80", b"\xF0\x8F\xBF\xBF", b"\xF0\x90\x80\x80", b"\xF0\xBF\xBF\xBF", b"\xF0\x90\x80", b"\xF0\x90", b"\xF0",
+    b"\xF1\x80\x80\x80", b"\xF1\x80\x7F\x80", b"\xF1\x80\x80\xC0", b"\xF3\xBF\xBF\xBF",
+    b"\xF4\x80\x80\x80", b"\xF4\x8F\xBF\xBF", b"\xF4\x90\x80\x80", b"\xF4\xBF\xBF\xBF", b"\xF5\x80\x80\x80", b"\xF7\xBF\xBF\xBF",
+];
+
 pub fn generate(folder: &Path, prng: &mut Prng) -> io::Result<()> {
+    named_texts(folder)?;
     texts(folder, prng)?;
     values(folder, prng)
+}
+
+fn named_texts(folder: &Path) -> io::Result<()> {
+    let mut player = Player::create(folder, "decoder-named-texts")?;
+    lend_document_table(&mut player)?;
+    for text in NAMED_TEXTS {
+        player.call("new")?;
+        one_text(&mut player, text)?;
+    }
+    for place in [0, 7, 8, 9, 63, 64, 65, 71] {
+        player.call("new")?;
+        one_text(&mut player, &plain_but_for('\u{20AC}', place, 74))?;
+        player.call("new")?;
+        one_text(&mut player, &plain_but_at(0x80, place, 72))?;
+    }
+    player.finish()
 }
 
 /// Texts: every one and two bytes, every three of the limits of RFC 3629's ranges, the limits of longer characters, and characters at every place of longer texts.
