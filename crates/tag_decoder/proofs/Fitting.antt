@@ -135,11 +135,11 @@ unfolding NoteFits noted settledTo withOpen withNotes
 noted-near ps d n NoNote good f = good
 noted-near ps d n (Settle path) good f = record { few = f; near = good .near }
 
-note-none : (ps : List ℕ) → NoteFits ps NoNote
+pub note-none : (ps : List ℕ) → NoteFits ps NoNote
 unfolding NoteFits
 note-none ps = tt
 
-note-settle : (ps : List ℕ) (path : Path) → length (within (partsOf ps) path) ≤ 32 → NoteFits ps (Settle path)
+pub note-settle : (ps : List ℕ) (path : Path) → length (within (partsOf ps) path) ≤ 32 → NoteFits ps (Settle path)
 unfolding NoteFits
 note-settle ps path h = h
 

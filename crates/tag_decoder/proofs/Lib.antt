@@ -1,3 +1,4 @@
 pub mod Fitting
 pub mod Told
 pub mod Unique
+pub mod Recovering

@@ -3,4 +3,5 @@
 
 pub mod calls;
 mod moving;
+pub mod recovery;
 pub mod settings;
