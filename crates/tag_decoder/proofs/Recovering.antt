@@ -158,29 +158,34 @@ module _ (es ps : List ℕ) (d : TagDecoder) (s : List ℕ) (e : TagDecoder) (i 
           moved = omega (arith, m, so-far .moved);
         }
 
--- where the search ends, the record is good and no earlier
-pub record EndWell (d : TagDecoder) (p : Placed) : Type 0 where
+-- where the search of n bytes ends, the record is good, no earlier than it began and no later than the bytes reach
+pub record EndWell (d : TagDecoder) (n : ℕ) (p : Placed) : Type 0 where
   pub good : GoodState (p .state)
   pub later : d .position ≤ p .state .position
+  pub within : p .state .position ≤ d .position + n
 
 pub end-well : (es ps : List ℕ) → goodShape es ps ≡ true → (d : TagDecoder) (s : List ℕ) → GoodState d → Octets s → d .position + length s ≤ 2 ^ 62
-    → EndWell d (endOfSearch ps (tableOf es ps) d s)
+    → EndWell d (length s) (endOfSearch ps (tableOf es ps) d s)
 unfolding endOfSearch
-end-well es ps shape d [] g byte near = record { good = g; later = omega arith }
+end-well es ps shape d [] g byte near = record { good = g; later = omega arith; within = omega arith }
 end-well es ps shape d (b ∷ s) g byte near =
     go (λ e g near. end-well es ps shape e s g (λ i. byte (suc i)) near) (placeAt ps (tableOf es ps) d (b ∷ s)) (place-well es ps shape d g (omega arith) (b ∷ s) byte)
   where
-    go : ((e : TagDecoder) → GoodState e → e .position + length s ≤ 2 ^ 62 → EndWell e (endOfSearch ps (tableOf es ps) e s))
-        → (p : Placed) → Well d p → EndWell d (unlessOn (p .place) (p .state) (λ next. endOfSearch ps (tableOf es ps) next s))
+    go : ((e : TagDecoder) → GoodState e → e .position + length s ≤ 2 ^ 62 → EndWell e (length s) (endOfSearch ps (tableOf es ps) e s))
+        → (p : Placed) → Well d p → EndWell d (suc (length s)) (unlessOn (p .place) (p .state) (λ next. endOfSearch ps (tableOf es ps) next s))
     go on p w = by (p .place) refl
       where
-        by : (q : Place) → p .place ≡ q → EndWell d (unlessOn q (p .state) (λ next. endOfSearch ps (tableOf es ps) next s))
-        by Stop f = record { good = w .good; later = omega (arith, w .moved) }
-        by Found f = record { good = w .good; later = omega (arith, w .moved) }
+        by : (q : Place) → p .place ≡ q → EndWell d (suc (length s)) (unlessOn q (p .state) (λ next. endOfSearch ps (tableOf es ps) next s))
+        by Stop f =
+            let z : passed (p .place) ≡ 0 = ap passed f in
+            record { good = w .good; later = omega (arith, w .moved); within = omega (arith, z, w .moved) }
+        by Found f =
+            let z : passed (p .place) ≡ 0 = ap passed f in
+            record { good = w .good; later = omega (arith, w .moved); within = omega (arith, z, w .moved) }
         by On f =
             let m : p .state .position ≡ d .position + 1 = w .moved ∙ ap (λ (x : Place). d .position + passed x) f in
             let r = on (p .state) (w .good) (omega (arith, m)) in
-            record { good = r .good; later = omega (arith, m, r .later) }
+            record { good = r .good; later = omega (arith, m, r .later); within = omega (arith, m, r .within) }
 
 -- ---- the search by places is document 01's
 

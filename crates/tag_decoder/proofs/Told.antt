@@ -1,24 +1,35 @@
 -- What a user of `decode` is told: a refusal and an End take no byte, a refusal changes at most the settling note, no more is taken than was lent, and the
--- position moves by what was taken. Assumes nothing.
+-- position moves by what was taken. A user of `try_recover` is told the same, and that its refusal changes nothing at all. Assumes nothing.
 use Prim.Native.Nat.{ℕ, zero, suc, _+_, _≤_, _<_}
-use mathlib.Core.Path.{_≡_, refl, sym, ap, _∙_}
+use mathlib.Core.Path.{_≡_, refl, sym, ap, _∙_, subst}
 use mathlib.Core.List.{List}
 use native.Mathlib.Omega.{arith}
 use lib.ListN.{length}
 use Rattle.tools.specs.Bytes.{Octets}
-use Rattle.decoder_state.specs.State.{withOpen, withWaiting, withNotes, settledTo, opened, closedTo, handedOut}
-use Rattle.decoder_state.specs.OneCall.{noted, decide, move, apply, decode}
+use Rattle.table.specs.Table.{tableOf}
+use Rattle.decoder_state.specs.State.{withOpen, withWaiting, withNotes, settledTo, opened, closedTo, handedOut, grown}
+use Rattle.decoder_state.specs.OneCall.{refused12, noted, decide, move, apply, decode, scanOr, tryRecover}
 use Rattle.decoder_state.specs.declared.types.Action.{Action}
 use Rattle.decoder_state.specs.declared.types.Action.the-variants as act
 use Rattle.decoder_state.specs.declared.types.Answer.{Answer}
 use Rattle.decoder_state.specs.declared.types.Answer.the-variants as answer
+use Rattle.decoder_state.specs.declared.types.Check.{Check}
+use Rattle.decoder_state.specs.declared.types.Check.the-variants.{Pass, Fail}
 use Rattle.decoder_state.specs.declared.types.Event.the-variants.{Start, End, Data}
 use Rattle.decoder_state.specs.declared.types.Note.{Note}
 use Rattle.decoder_state.specs.declared.types.Note.the-variants.{NoNote, Settle}
+use Rattle.decoder_state.specs.declared.types.Recovered.{Recovered}
 use Rattle.decoder_state.specs.declared.types.Refusal.{Refusal}
+use Rattle.decoder_state.specs.declared.types.Search.the-variants as search
 use Rattle.decoder_state.specs.declared.types.TagDecoder.{TagDecoder}
+use Rattle.decoder_decide.proofs.Judged.{passed12}
 use Rattle.tag_decoder.specs.Fits.{Fits}
+use Rattle.tag_decoder.specs.Recovery.{endOfSearch, endingAt, ending}
+use Rattle.tag_decoder.specs.declared.recovery.Place.{Place}
+use Rattle.tag_decoder.specs.declared.recovery.Place.the-variants.{Stop, Found, On}
+use Rattle.tag_decoder.specs.declared.recovery.Placed.{Placed}
 use Rattle.tag_decoder.proofs.Fitting.{decide-fits}
+use Rattle.tag_decoder.proofs.Recovering.{EndWell, end-well, scan-ends}
 
 no-answer : {A : Type 0} → _≡_ {A = ℕ} 0 1 → A
 no-answer e = absurd (omega arith)
@@ -95,3 +106,47 @@ module _ (es ps : List ℕ) (d : TagDecoder) (s : List ℕ) where
   pub end-takes-nothing : {x o : ℕ} → decode es ps d s .answer ≡ answer.Event (End x o) → decode es ps d s .taken ≡ 0
   unfolding apply
   end-takes-nothing q = end-takes-none (noted ps d (decide es ps d s .note)) (decide es ps d s .action) q
+
+-- ---- one recovery
+
+-- no more is taken than the n bytes lent, and the position moves by what was taken
+pub record Moved (d : TagDecoder) (n : ℕ) (r : Recovered) : Type 0 where
+  pub within : r .taken ≤ n
+  pub moves : r .state .position ≡ d .position + r .taken
+
+ending-moved : (d : TagDecoder) (n : ℕ) (p : Placed) → EndWell d n p → Moved d n (ending (d .position) p)
+unfolding ending grown withOpen
+ending-moved d n p w = by (p .place)
+  where
+    by : (q : Place) → Moved d n (endingAt (d .position) q (p .state))
+    by Stop = record { within = omega (arith, w .within); moves = omega (arith, w .later) }
+    by Found = record { within = omega (arith, w .within); moves = omega (arith, w .later) }
+    by On = record { within = omega (arith, w .within); moves = omega (arith, w .later) }
+
+ending-answers : (start : ℕ) (p : Placed) {r : Refusal} {A : Type 0} → ending start p .answer ≡ search.Refused r → A
+unfolding ending
+ending-answers start p {r = r} {A = A} e = by (p .place) e
+  where
+    by : (q : Place) → endingAt start q (p .state) .answer ≡ search.Refused r → A
+    by Stop f = let z : _≡_ {A = ℕ} 0 1 = cc in no-answer z
+    by Found f = let z : _≡_ {A = ℕ} 0 1 = cc in no-answer z
+    by On f = let z : _≡_ {A = ℕ} 0 1 = cc in no-answer z
+
+module _ (es ps : List ℕ) (d : TagDecoder) (s : List ℕ) where
+  pub recovery-moves : Octets s → Moved d (length s) (tryRecover es ps d s)
+  unfolding tryRecover
+  recovery-moves byte = go (refused12 es ps d (length s)) refl
+    where
+      go : (c : Check) → refused12 es ps d (length s) ≡ c → Moved d (length s) (scanOr ps (tableOf es ps) d s c)
+      go Pass e =
+          let p = passed12 es ps d (length s) e in
+          subst (Moved d (length s)) (sym (scan-ends ps (tableOf es ps) d d s)) (ending-moved d (length s) _ (end-well es ps (p .shape) d s (p .good) byte (p .near)))
+      go (Fail x) e = record { within = omega arith; moves = omega arith }
+
+  pub refused-recovery-changes-nothing : {r : Refusal} → tryRecover es ps d s .answer ≡ search.Refused r → (tryRecover es ps d s .taken ≡ 0) × (tryRecover es ps d s .state ≡ d)
+  unfolding tryRecover
+  refused-recovery-changes-nothing {r = r} e = go (refused12 es ps d (length s)) e
+    where
+      go : (c : Check) → scanOr ps (tableOf es ps) d s c .answer ≡ search.Refused r → (scanOr ps (tableOf es ps) d s c .taken ≡ 0) × (scanOr ps (tableOf es ps) d s c .state ≡ d)
+      go Pass f = ending-answers (d .position) (endOfSearch ps (tableOf es ps) d s) (ap (λ (x : Recovered). x .answer) (sym (scan-ends ps (tableOf es ps) d d s)) ∙ f)
+      go (Fail x) f = (refl, refl)

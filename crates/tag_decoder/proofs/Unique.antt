@@ -7,11 +7,14 @@ use borrow.Fn.Kinds.{Dens}
 use contract.Lifetimes.{Lfts}
 use Rattle.tools.proofs.Unique.{same}
 use Rattle.decoder_state.specs.declared.types.Decoded.{Decoded}
+use Rattle.decoder_state.specs.declared.types.Recovered.{Recovered}
 use Rattle.decoder_state.specs.declared.types.TagDecoder.{TagDecoder}
 use Rattle.tag_decoder.proofs.calls.decode.Reads as decode
 use Rattle.tag_decoder.proofs.calls.decode.Kinds as decode-kinds
 use Rattle.tag_decoder.proofs.calls.decode_eof.Reads as decode-eof
 use Rattle.tag_decoder.proofs.calls.decode_eof.Kinds as decode-eof-kinds
+use Rattle.tag_decoder.proofs.recovery.try_recover.Reads as try-recover
+use Rattle.tag_decoder.proofs.recovery.try_recover.Kinds as try-recover-kinds
 use Rattle.tag_decoder.proofs.settings.new.Reads as new
 use Rattle.tag_decoder.proofs.settings.new.Kinds as new-kinds
 use Rattle.tag_decoder.proofs.settings.allow_errors.Reads as allow-errors
@@ -28,6 +31,9 @@ decode-one κs a r r' e p q = same p q
 
 pub decode-eof-one : (κs : Lfts 3) (a : Dens κs decode-eof-kinds.ps) (r r' : Decoded) (e : _) → decode-eof.Post κs a r e → decode-eof.Post κs a r' e → r ≡ r'
 decode-eof-one κs a r r' e p q = same p q
+
+pub try-recover-one : (κs : Lfts 3) (a : Dens κs try-recover-kinds.ps) (r r' : Recovered) (e : _) → try-recover.Post κs a r e → try-recover.Post κs a r' e → r ≡ r'
+try-recover-one κs a r r' e p q = same p q
 
 pub new-one : (κs : Lfts 0) (a : Dens κs new-kinds.ps) (r r' : TagDecoder) (e : _) → new.Post κs a r e → new.Post κs a r' e → r ≡ r'
 new-one κs a r r' e p q = same p q

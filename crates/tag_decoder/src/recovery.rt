@@ -125,24 +125,19 @@ fn ending(start: u64, p: Placed) -> Recovered
     ensures { λ r. ⌜ r ≡ ending start p ⌝ }
 {
     let place = p.place;
-    let e = p.state;
-    let passed = e.position - start;
-    match place {
-        Place::Found => Recovered {
+    let end = p.state;
+    let passed = end.position - start;
+    if let Place::Found = place {
+        return Recovered {
             answer: Search::Found,
             taken: passed as usize,
-            state: grown(e, passed),
-        },
-        Place::Stop => Recovered {
-            answer: Search::NotFound,
-            taken: passed as usize,
-            state: e,
-        },
-        Place::On => Recovered {
-            answer: Search::NotFound,
-            taken: passed as usize,
-            state: e,
-        },
+            state: grown(end, passed),
+        };
+    }
+    Recovered {
+        answer: Search::NotFound,
+        taken: passed as usize,
+        state: end,
     }
 }
 

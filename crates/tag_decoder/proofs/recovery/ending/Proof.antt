@@ -1,11 +1,30 @@
 -- `tag_decoder::recovery::ending`, by the place. Assumes nothing.
-use mathlib.Core.Path.{_≡_, ap}
+use Prim.Native.Nat.{ℕ, _-_}
+use mathlib.Core.List.{List, [], _∷_}
+use mathlib.Core.Path.{_≡_, refl}
+use denote.Enum.Declared.{tagOf}
+use types.Run.{OneOf, miss}
 use native.Mathlib.Omega.{arith}
 use Rattle.decoder_state.proofs.Good.{good-state}
-use Rattle.tag_decoder.specs.Recovery.{ending}
+use Rattle.decoder_state.specs.declared.types.Search.the-variants.{NotFound}
+use Rattle.decoder_state.specs.declared.types.TagDecoder.{TagDecoder}
+use Rattle.tag_decoder.specs.Recovery.{endingAt, ending}
+use Rattle.tag_decoder.specs.declared.recovery.Place.{Place}
+use Rattle.tag_decoder.specs.declared.recovery.Place.the-variants.{Stop, Found, On}
+use Rattle.tag_decoder.proofs.recovery.Place.{the-type}
 use borrow.Author.Needs.{needs}
 use Rattle.tag_decoder.proofs.recovery.ending.Statement.{statement}
 use Rattle.tag_decoder.proofs.recovery.ending.Tie as tie
+
+-- the numbers of the variants but Found's
+abbrev others : List ℕ
+others = 0 ∷ 2 ∷ []
+
+other : (start : ℕ) (q : Place) (e : TagDecoder) → OneOf others (tagOf the-type q)
+    → record { answer = NotFound; taken = e .position - start; state = e } ≡ endingAt start q e
+other start Stop e h = refl
+other start Found e h = absurd (miss others 1 tt h)
+other start On e h = refl
 
 sub-passed : tie.Need-sub-passed
 sub-passed c = search needs
@@ -18,33 +37,15 @@ grown-requires c κs =
     let g = good-state _ (c .before .before .before .before .pre .0) in
     (g .open-count, omega (arith, g .place), g .place, g .masters)
 
-enum-told-2 : tie.Need-enum-told-2
-enum-told-2 c = search needs
-
-enum-told-3 : tie.Need-enum-told-3
-enum-told-3 c = search needs
-
 returns : tie.Need-returns
 unfolding ending
 returns c = rw (c .before .enum-told .given .1, c .grown .ensures)
 
 returns-2 : tie.Need-returns-2
 unfolding ending
-returns-2 c = rw (c .enum-told2 .given .1)
-
-returns-3 : tie.Need-returns-3
-unfolding ending
-returns-3 c = rw (c .enum-told3 .given .1)
+returns-2 c =
+    let a = c .before .before .before .args in
+    other (a .start) (a .p .place) (a .p .state) (c .match .keys2)
 
 pub ending-spec : {M : Type 1} → statement M
-ending-spec =
-    tie.close
-    (tie.spec
-    sub-passed
-    enum-told
-    grown-requires
-    enum-told-2
-    enum-told-3
-    returns
-    returns-2
-    returns-3)
+ending-spec = tie.close (tie.spec sub-passed enum-told grown-requires returns returns-2)
