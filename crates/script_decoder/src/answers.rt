@@ -1,4 +1,4 @@
-// The answers of `decode` and `eof`.
+// The answers of `decode`, `eof` and `recover`.
 
 ghost use Prim.Native.Nat.{_≤_};
 ghost use lib.ListN.{length};
@@ -13,6 +13,7 @@ use decoder_state::types::Event;
 use decoder_state::types::Given;
 use decoder_state::types::Part;
 use decoder_state::types::Refusal;
+use decoder_state::types::Search;
 use script_text::answers::put;
 use script_text::answers::put_bits;
 use script_text::answers::put_signed;
@@ -186,5 +187,21 @@ pub fn put_answer(answer: Answer, taken: usize, position: u64, out: &mut [u8]) -
             put_reached(taken, position, out, at)
         }
         Answer::Refused(r) => put_refusal(r, out),
+    }
+}
+
+pub fn put_search(answer: Search, taken: usize, position: u64, out: &mut [u8]) -> usize
+    ensures { λ r. ⌜ r ≤ length (now (out .entry)) ⌝ }
+{
+    match answer {
+        Search::Found => {
+            let at = put(b'Y', out, 0);
+            put_reached(taken, position, out, at)
+        }
+        Search::NotFound => {
+            let at = put(b'Q', out, 0);
+            put_reached(taken, position, out, at)
+        }
+        Search::Refused(r) => put_refusal(r, out),
     }
 }

@@ -3,12 +3,14 @@
 ghost use Prim.Native.Nat.{_≤_};
 ghost use lib.ListN.{length};
 use crate::answers::put_answer;
+use crate::answers::put_search;
 use crate::changes::Change;
 use crate::changes::set_allowance;
 use crate::changes::set_max;
 use crate::record::put_record;
 use crate::setting::set_fields;
 use decoder_state::types::Decoded;
+use decoder_state::types::Recovered;
 use decoder_state::types::TagDecoder;
 use script_text::answers::bad_line;
 use script_text::answers::put_text;
@@ -17,6 +19,7 @@ use script_text::words::same;
 use script_text::words::word_end;
 use tag_decoder::calls::decode;
 use tag_decoder::calls::decode_eof;
+use tag_decoder::recovery::try_recover;
 use tag_decoder::settings::new;
 
 // The HEX of a line of 16,384 bytes has fewer.
@@ -51,6 +54,9 @@ pub fn is_call(name: &[u8]) -> bool {
         return true;
     }
     if same(name, b"eof") {
+        return true;
+    }
+    if same(name, b"recover") {
         return true;
     }
     if same(name, b"st") {
@@ -99,6 +105,17 @@ fn decoded(r: Decoded, out: &mut [u8]) -> Answered
     }
 }
 
+fn recovered(r: Recovered, out: &mut [u8]) -> Answered
+    ensures { λ r. ⌜ r .count ≤ length (now (out .entry)) ⌝ }
+{
+    let answer = r.answer;
+    let decoder = r.state;
+    Answered {
+        decoder,
+        count: put_search(answer, r.taken, decoder.position, out),
+    }
+}
+
 // A call on the unread bytes.
 fn answer_on_bytes(
     name: &[u8],
@@ -121,6 +138,9 @@ fn answer_on_bytes(
     }
     if same(name, b"eof") {
         return decoded(decode_eof(entries, parts, d, &bytes[0..n]), out);
+    }
+    if same(name, b"recover") {
+        return recovered(try_recover(entries, parts, d, &bytes[0..n]), out);
     }
     no_call(d, out)
 }
