@@ -62,14 +62,13 @@ fn is_lent(Answered { call, answer, .. }: &Answered) -> bool {
     call.starts_with("table ") && answer != "BADLINE"
 }
 
-/// `recover` is not sampled, nor what follows it.
 fn is_taken(session: &Session) -> bool {
     session.table.0.len() <= LONGEST_SAMPLED
         && session.calls.len() <= MOST_CALLS
         && session
             .calls
             .iter()
-            .all(|answered| is_sampled(answered, LONGEST_SAMPLED) && !answered.call.starts_with("recover"))
+            .all(|answered| is_sampled(answered, LONGEST_SAMPLED))
 }
 
 /// Takes the session that has most of what is still wanted for its calls, until nothing is wanted.
