@@ -1,20 +1,24 @@
--- What a user of `decode` is told: a refusal and an End take no byte, a refusal changes at most the settling note, no more is taken than was lent, and the
+-- What a user of `decode` and of `decode_eof` is told: a refusal and an End take no byte, a refusal changes at most the settling note, no more is taken than was lent, and the
 -- position moves by what was taken. A user of `try_recover` is told the same, and that its refusal changes nothing at all. Assumes nothing.
 use Prim.Native.Nat.{ℕ, zero, suc, _+_, _≤_, _<_}
 use mathlib.Core.Path.{_≡_, refl, sym, ap, _∙_, subst}
 use mathlib.Core.List.{List}
 use native.Mathlib.Omega.{arith}
+use lib.Dec.{ltb, eqb}
 use lib.ListN.{length}
 use Rattle.tools.specs.Bytes.{Octets}
-use Rattle.table.specs.Table.{tableOf}
-use Rattle.decoder_state.specs.State.{withOpen, withWaiting, withNotes, settledTo, opened, closedTo, handedOut, grown}
-use Rattle.decoder_state.specs.OneCall.{refused12, noted, decide, move, apply, decode, scanOr, tryRecover}
+use Rattle.table.specs.Lists.{every}
+use Rattle.table.specs.Table.{Entry, tableOf, dataTypeOf, isMaster}
+use Rattle.decoder_state.specs.State.{opens, withOpen, withWaiting, withNotes, settledTo, opened, closedTo, handedOut, grown}
+use Rattle.decoder_state.specs.OneCall.{refused12, firstIndex, isCut, noted, decide, gives, refuse, move, apply, decode, finish, closeAll, ended, endedOr, decodeEof, scanOr, tryRecover}
 use Rattle.decoder_state.specs.declared.types.Action.{Action}
 use Rattle.decoder_state.specs.declared.types.Action.the-variants as act
 use Rattle.decoder_state.specs.declared.types.Answer.{Answer}
 use Rattle.decoder_state.specs.declared.types.Answer.the-variants as answer
 use Rattle.decoder_state.specs.declared.types.Check.{Check}
 use Rattle.decoder_state.specs.declared.types.Check.the-variants.{Pass, Fail}
+use Rattle.decoder_state.specs.declared.types.Decoded.{Decoded}
+use Rattle.decoder_state.specs.declared.types.DecodeError.{DecodeError}
 use Rattle.decoder_state.specs.declared.types.Event.the-variants.{Start, End, Data}
 use Rattle.decoder_state.specs.declared.types.Note.{Note}
 use Rattle.decoder_state.specs.declared.types.Note.the-variants.{NoNote, Settle}
@@ -22,7 +26,7 @@ use Rattle.decoder_state.specs.declared.types.Recovered.{Recovered}
 use Rattle.decoder_state.specs.declared.types.Refusal.{Refusal}
 use Rattle.decoder_state.specs.declared.types.Search.the-variants as search
 use Rattle.decoder_state.specs.declared.types.TagDecoder.{TagDecoder}
-use Rattle.decoder_decide.proofs.Judged.{passed12}
+use Rattle.decoder_decide.proofs.Judged.{pick, passed12}
 use Rattle.tag_decoder.specs.Fits.{Fits}
 use Rattle.tag_decoder.specs.Recovery.{endOfSearch, endingAt, ending}
 use Rattle.tag_decoder.specs.declared.recovery.Place.{Place}
@@ -106,6 +110,93 @@ module _ (es ps : List ℕ) (d : TagDecoder) (s : List ℕ) where
   pub end-takes-nothing : {x o : ℕ} → decode es ps d s .answer ≡ answer.Event (End x o) → decode es ps d s .taken ≡ 0
   unfolding apply
   end-takes-nothing q = end-takes-none (noted ps d (decide es ps d s .note)) (decide es ps d s .action) q
+
+-- ---- the end of input: the same of it
+
+-- what the four laws say of an answer r where the call was lent n bytes and the record became e by its note
+pub record CallTold (d e : TagDecoder) (n : ℕ) (r : Decoded) : Type 0 where
+  pub within : r .taken ≤ n
+  pub moves : r .state .position ≡ d .position + r .taken
+  pub refusal : {x : Refusal} → r .answer ≡ answer.Refused x → (r .taken ≡ 0) × (r .state ≡ e)
+  pub end : {x o : ℕ} → r .answer ≡ answer.Event (End x o) → r .taken ≡ 0
+
+-- where the bytes or a master are cut, or all close, nothing is taken and nothing but the closing changes the record
+record Ends (d : TagDecoder) (r : Decoded) : Type 0 where
+  none : r .taken ≡ 0
+  place : r .state .position ≡ d .position
+  refusal : {x : Refusal} → r .answer ≡ answer.Refused x → r .state ≡ d
+
+refuse-ends : (d : TagDecoder) (e : DecodeError) (p : ℕ) → Ends d (refuse e p d)
+refuse-ends d e p = record { none = refl; place = refl; refusal = λ q. refl }
+
+finish-ends : (d : TagDecoder) → Ends d (finish d)
+unfolding finish move closedTo withOpen withWaiting withNotes
+finish-ends d =
+    pick (Ends d) (eqb (d .«open_count») 0) _ _
+    (λ f. record { none = refl; place = refl; refusal = λ q. (let z : _≡_ {A = ℕ} 0 1 = cc in no-answer z) })
+    (λ f. record { none = refl; place = refl; refusal = λ q. (let z : _≡_ {A = ℕ} 0 1 = cc in no-answer z) })
+
+ended-ends : (t : List Entry) (d : TagDecoder) (s : List ℕ) → Ends d (ended t d s)
+unfolding ended closeAll
+ended-ends t d s =
+    let k = firstIndex (isCut (d .position)) (opens d) in
+    pick (Ends d) (ltb 0 (length s)) _ _ (λ f. refuse-ends d _ _)
+    (λ f. pick (Ends d) (ltb k (d .«open_count»)) _ _ (λ g. refuse-ends d _ _)
+    (λ g. pick (Ends d) (every (λ m. isMaster (dataTypeOf t (m .id))) (opens d)) _ _ (λ h. finish-ends d) (λ h. refuse-ends d _ _)))
+
+more-stays : (d : TagDecoder) (a : Action) → move d a .answer ≡ answer.NeedMore → move d a ≡ gives answer.NeedMore 0 d
+unfolding move
+more-stays d (act.Refuse e) q = let z : _≡_ {A = ℕ} 0 1 = cc in no-answer z
+more-stays d act.NeedMore q = refl
+more-stays d act.Finish q = let z : _≡_ {A = ℕ} 0 1 = cc in no-answer z
+more-stays d act.HandOut q = let z : _≡_ {A = ℕ} 0 1 = cc in no-answer z
+more-stays d (act.Close k) q = let z : _≡_ {A = ℕ} 0 1 = cc in no-answer z
+more-stays d (act.Start x y l) q = let z : _≡_ {A = ℕ} 0 1 = cc in no-answer z
+more-stays d (act.Data x v m) q = let z : _≡_ {A = ℕ} 0 1 = cc in no-answer z
+
+finished-stays : (d : TagDecoder) (a : Action) → move d a .answer ≡ answer.Finished → move d a ≡ gives answer.Finished 0 d
+unfolding move
+finished-stays d (act.Refuse e) q = let z : _≡_ {A = ℕ} 0 1 = cc in no-answer z
+finished-stays d act.NeedMore q = let z : _≡_ {A = ℕ} 0 1 = cc in no-answer z
+finished-stays d act.Finish q = refl
+finished-stays d act.HandOut q = let z : _≡_ {A = ℕ} 0 1 = cc in no-answer z
+finished-stays d (act.Close k) q = let z : _≡_ {A = ℕ} 0 1 = cc in no-answer z
+finished-stays d (act.Start x y l) q = let z : _≡_ {A = ℕ} 0 1 = cc in no-answer z
+finished-stays d (act.Data x v m) q = let z : _≡_ {A = ℕ} 0 1 = cc in no-answer z
+
+module _ (es ps : List ℕ) (d : TagDecoder) (s : List ℕ) (byte : Octets s) where
+  -- the record with the note
+  abbrev pub settled : TagDecoder
+  settled = noted ps d (decide es ps d s .note)
+
+  pub decode-told : CallTold d settled (length s) (decode es ps d s)
+  decode-told =
+      record {
+        within = takes-within es ps d s byte;
+        moves = moves-on es ps d s;
+        refusal = λ q. refusal-changes-nothing es ps d s q;
+        end = λ q. end-takes-nothing es ps d s q;
+      }
+
+  pub eof-told : CallTold d settled (length s) (decodeEof es ps d s)
+  unfolding decodeEof apply
+  eof-told = go (decode es ps d s .answer) refl
+    where
+      ends : CallTold d settled (length s) (ended (tableOf es ps) settled s)
+      ends =
+          let e = ended-ends (tableOf es ps) settled s in
+          record {
+            within = omega (arith, e .none);
+            moves = omega (arith, e .none, e .place, note-keeps-position ps d (decide es ps d s .note));
+            refusal = λ q. (e .none, e .refusal q);
+            end = λ q. e .none;
+          }
+
+      go : (a : Answer) → decode es ps d s .answer ≡ a → CallTold d settled (length s) (endedOr (tableOf es ps) s (decode es ps d s) a)
+      go (answer.Event e) q = decode-told
+      go answer.NeedMore q = rw (more-stays settled (decide es ps d s .action) q) ends
+      go answer.Finished q = rw (finished-stays settled (decide es ps d s .action) q) ends
+      go (answer.Refused r) q = decode-told
 
 -- ---- one recovery
 
