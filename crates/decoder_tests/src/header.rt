@@ -15,28 +15,11 @@ use decoder_state::types::TagDecoder;
 use spec_util::types::Walk;
 use spec_util::walk::walk_end;
 use spec_util::walk::walk_master;
+use table::check::only_ids;
 use table::lookup::is_typed;
-use table::parts::path_length;
-use table::parts::path_part;
-use table::types::Path;
-use table::types::PathPart;
 use table::types::TagDataType;
 use tag_parse::types::EBMLSize;
 use tag_parse::types::TagHeader;
-
-fn only_ids(parts: &[u64], path: Path) -> bool
-    ensures { λ r. ⌜ r ≡ onlyIds (within (partsOf (now (parts .entry))) path) ⌝ }
-{
-    let count = path_length(parts, path);
-    let mut i: usize = 0;
-    while i < count {
-        if let PathPart::Global { min: _, max: _ } = path_part(parts, path, i) {
-            return false;
-        }
-        i += 1;
-    }
-    true
-}
 
 // Step 7's test, of the record's one field that it reads.
 pub fn settles_when(parts: &[u64], settled: bool, h: TagHeader) -> bool

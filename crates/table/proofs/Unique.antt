@@ -34,6 +34,8 @@ use Rattle.table.proofs.lookup.is_master.Kinds as is-master-kinds
 use Rattle.table.proofs.lookup.is_typed.Kinds as is-typed-kinds
 use Rattle.table.proofs.lookup.is_typed.Reads as is-typed
 use Rattle.table.proofs.lookup.is_master.Reads as is-master
+use Rattle.table.proofs.check.only_ids.Kinds as only-ids-kinds
+use Rattle.table.proofs.check.only_ids.Reads as only-ids
 use Rattle.table.proofs.check.check_table.Kinds as check-table-kinds
 use Rattle.table.proofs.check.check_table.Reads as check-table
 
@@ -88,6 +90,10 @@ is-master-determined κs a r r' e = same
 pub is-typed-determined : (κs : Lfts 0) (a : Dens κs is-typed-kinds.ps) (r r' : Bool)
     → ((e : _) → is-typed.Post κs a r e → is-typed.Post κs a r' e → r ≡ r')
 is-typed-determined κs a r r' e = same
+
+pub only-ids-determined : (κs : Lfts 1) (a : Dens κs only-ids-kinds.ps) (r r' : Bool)
+    → ((e : _) → only-ids.Post κs a r e → only-ids.Post κs a r' e → r ≡ r')
+only-ids-determined κs a r r' e = same
 
 pub check-table-determined : (κs : Lfts 2) (a : Dens κs check-table-kinds.ps) (r r' : Checked)
     → ((e : _) → check-table.Post κs a r e → check-table.Post κs a r' e → r ≡ r')

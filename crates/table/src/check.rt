@@ -67,7 +67,8 @@ fn listed_before(entries: &[u64], parts: &[u64], id: u64, n: usize) -> bool
     false
 }
 
-fn only_ids(parts: &[u64], path: Path) -> bool
+// Whether a path has no Global.
+pub fn only_ids(parts: &[u64], path: Path) -> bool
     ensures { λ r. ⌜ r ≡ onlyIds (within (partsOf (now (parts .entry))) path) ⌝ }
 {
     let count = path_length(parts, path);
