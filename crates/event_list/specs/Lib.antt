@@ -1,0 +1,4 @@
+pub mod Numeral
+pub mod Line
+pub mod BenchTable
+pub mod Puts
