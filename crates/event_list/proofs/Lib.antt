@@ -1,2 +1,4 @@
+pub mod Buffers
 pub mod Digits
 pub mod Putting
+pub mod Taking

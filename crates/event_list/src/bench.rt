@@ -1,0 +1,50 @@
+// The bench table as the words that are lent to the decoder.
+
+ghost use mathlib.Core.Path.{_≡_};
+ghost use Rattle.event_list.specs.BenchTable.{benchEntries, benchParts};
+
+// ID, type, first part, number of parts.
+pub fn entries() -> [u64; 32]
+    ensures { λ r. ⌜ r ≡ benchEntries ⌝ }
+{
+    [
+        0x4E01,
+        0,
+        0,
+        0,
+        0xA1,
+        0,
+        0,
+        1,
+        0xA2,
+        1,
+        0,
+        2,
+        0xA3,
+        3,
+        0,
+        2,
+        0xA4,
+        4,
+        0,
+        2,
+        0xA5,
+        2,
+        0,
+        2,
+        0xA6,
+        5,
+        0,
+        2,
+        0xEC,
+        4,
+        2,
+        1,
+    ]
+}
+
+pub fn parts() -> [u64; 9]
+    ensures { λ r. ⌜ r ≡ benchParts ⌝ }
+{
+    [0, 0x4E01, 0, 0, 0xA1, 0, 1, 0, 0]
+}
