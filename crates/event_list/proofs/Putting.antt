@@ -37,20 +37,23 @@ within {m} {n} {at} {r} {o} {o₀} {s} h p = let f = p .few in record { place = 
 
 -- ---- the whole line
 
-pub put-none : (a : Answer) (p : ℕ) {out : List ℕ} → length out < mostLine → Gives 0 out (lineOut a p out)
+pub put-none : (a : Answer) (p : ℕ) {out : List ℕ} → length out < mostLine → Gives 0 out (lineOut a p out) × (0 ≤ length out)
 unfolding lineOut
-put-none a p {out} h = rw (lt-ltb (length out) mostLine h) (record { answer = refl; bytes = refl })
+put-none a p {out} h = (rw (lt-ltb (length out) mostLine h) (record { answer = refl; bytes = refl }), omega arith)
 
 pub put-whole : (a : Answer) (p : ℕ) {r r' : ℕ} {o o₀ o' : List ℕ} → mostLine ≤ length o₀
-    → Puts 81 r o o₀ 0 (answerText a p) → Puts 1 r' o' o r (10 ∷ []) → Gives r' o' (lineOut a p o₀)
+    → Puts 81 r o o₀ 0 (answerText a p) → Puts 1 r' o' o r (10 ∷ []) → Gives r' o' (lineOut a p o₀) × (r' ≤ length o₀)
 unfolding lineOut line
 put-whole a p {r} {r'} {o} {o₀} {o'} h t n =
     let whole = and-then t n in
     let few : length (line a p) ≤ mostLine = whole .few in
     let fits : 0 + length (line a p) ≤ length o₀ = omega arith in
     let z : 0 + length (line a p) ≡ length (line a p) = omega arith in
-    rw (le-ltb (length o₀) mostLine h)
-    (record {
-      answer = whole .place ∙ z;
-      bytes = whole .bytes ∙ sets-eq (line a p) o₀ 0 fits ∙ ap (λ (k : ℕ). line a p ++ drop k o₀) z;
-    })
+    let place = whole .place in (
+      rw (le-ltb (length o₀) mostLine h)
+          (record {
+            answer = whole .place ∙ z;
+            bytes = whole .bytes ∙ sets-eq (line a p) o₀ 0 fits ∙ ap (λ (k : ℕ). line a p ++ drop k o₀) z;
+          }),
+      omega arith,
+    )

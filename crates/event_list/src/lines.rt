@@ -152,7 +152,7 @@ fn put_answer(answer: Answer, position: u64, out: &mut [u8]) -> usize
 
 // The line of an answer, with the decoder at a position, at the front of the lent bytes: its length, or 0 where fewer than MOST_LINE bytes are lent.
 pub fn put_line(answer: Answer, position: u64, out: &mut [u8]) -> usize
-    ensures { λ r. ⌜ Gives r (now (out .exit)) (lineOut answer position (now (out .entry))) ⌝ }
+    ensures { λ r. ⌜ Gives r (now (out .exit)) (lineOut answer position (now (out .entry))) × (r ≤ length (now (out .entry))) ⌝ }
 {
     if out.len() < MOST_LINE {
         return 0;

@@ -103,7 +103,7 @@ fn shift(buffer: &mut [u8], from: usize, count: usize)
 
 // The unread bytes move to the front, so that the buffer can be filled behind them.
 pub fn keep(buffer: &mut [u8], l: Listing) -> Listing
-    ensures { λ r. ⌜ Gives r (now (buffer .exit)) (kept l (now (buffer .entry))) ⌝ }
+    ensures { λ r. ⌜ Gives r (now (buffer .exit)) (kept l (now (buffer .entry))) × (r .upto ≤ length (now (buffer .entry))) ⌝ }
 {
     let upto = least(l.upto, buffer.len());
     let from = least(l.from, upto);

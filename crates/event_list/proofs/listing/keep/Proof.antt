@@ -1,4 +1,5 @@
 -- `event_list::listing::keep`: the two ends, and then the move. Assumes nothing.
+use native.Mathlib.Omega.{arith}
 use Rattle.event_list.proofs.Buffers.{kept-is}
 use borrow.Author.Needs.{needs}
 use Rattle.event_list.proofs.listing.keep.Statement.{statement}
@@ -27,7 +28,7 @@ returns c =
     let h = c .before .before .before in
     let f = h .before .before in
     let s = f .before .before .before in
-    kept-is (s .args .l) (s .args .buffer .now) (f .before .least .ensures .0) (f .least2 .ensures .0) (h .shift .ensures)
+    (kept-is (s .args .l) (s .args .buffer .now) (f .before .least .ensures .0) (f .least2 .ensures .0) (h .shift .ensures), omega arith)
 
 pub keep-spec : {M : Type 1} → statement M
 keep-spec =
