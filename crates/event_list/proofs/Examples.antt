@@ -1,0 +1,140 @@
+-- Worked examples, computed from the definitions: the list of document 01's D1, with the input whole and in pieces, in a buffer that holds it and in smaller ones; an
+-- element of exactly the buffer's size, and one that is a byte larger; and the ends of numbers. Assumes nothing.
+use Prim.Native.Nat.{ℕ, zero, suc, _+_, _-_, _^_}
+use mathlib.Core.Path.{_≡_, refl}
+use mathlib.Core.Bool.{Bool, true, false, cond}
+use mathlib.Core.List.{List, [], _∷_, _++_, map, reverse}
+use lib.Count.{leadingZeros}
+use lib.IntN.{ℤ, pos, negsuc}
+use lib.ListN.{length, take, drop, replicate}
+use Rattle.tools.specs.Bytes.{beFrom}
+use Rattle.tools.specs.Vint.{readVint}
+use Rattle.tools.specs.Integer.{arrToU64}
+use Rattle.utf8.specs.Rfc3629.{fits, rows, firstFit, textAfter}
+use Rattle.table.specs.Lists.{every, any}
+use Rattle.table.specs.Shape.{goodPart, goodParts, goodEntry, goodEntries, goodShape}
+use Rattle.table.specs.Check.{onlyIds}
+use Rattle.table.specs.Table.{threes, fours, boundOf, partOf, sameBound, samePart, samePath, kindOf, isMaster, isTyped, clipped, entryOf, tableOf, entryFor}
+use Rattle.spec_util.specs.Ended.{isIdOf, hasId, isParent, isSibling, isTypedRoot, isEndedBy}
+use Rattle.spec_util.specs.Walk.{overMax, underMin, isIdAt, walkGlobal, walkAt, walkPart, unknownAndEnded, walkMaster, minMet, walkEnd, goOn, walkFrom, validateTagPath}
+use Rattle.tag_parse.specs.Header.{readTagId, sizeOf, tooLong, sizedBy, sized, afterId, readHeader}
+use Rattle.tag_parse.specs.Payload.{readData}
+use Rattle.decoder_state.specs.State.{endFor, withOpen, withWaiting, withNotes, settledTo, opened, closedTo, handedOut}
+use Rattle.decoder_state.specs.OneCall.{goodOpen, goodState, refused12, refused13, isDone, firstIndex, closing, noted, step8, reaches, step9, validHeader, endedTops, element, elementOf, step11, steps10-11, steps8-11, steps6-11, step5, steps4-11, steps2-11, decide, move, apply, cutBytes, isCut, finish, closeAll, ended, decodeEof}
+use Rattle.event_list.specs.Line as lines
+use Rattle.event_list.specs.Numeral.{digits, places, hex, hex16, decimal, signedDecimal}
+use Rattle.event_list.specs.Reading.{started, unread, called, turn, kept, afterRead}
+use Rattle.event_list.specs.declared.types.Listing.{Listing}
+use Rattle.event_list.specs.declared.types.Next.{Next}
+use Rattle.event_list.specs.declared.types.Next.the-variants.{Line, Last, Read}
+use Rattle.event_list.specs.declared.types.Turn.{Turn}
+
+-- ---- a run of the program on an input that comes in pieces
+
+-- where the run stands: its listing, its buffer, the pieces to come, whether the last line is printed, and what is printed at this step
+pub record Stage : Type 0 where
+  pub at : Listing
+  pub buffer : List ℕ
+  pub pieces : List (List ℕ)
+  pub over : Bool
+  pub text : List ℕ
+
+-- a read of at most n bytes gives the front of the next piece; none is left at the end
+abbrev pub taken : ℕ → List (List ℕ) → List ℕ
+taken n [] = []
+taken n (p ∷ ps) = take n p
+
+abbrev pub unless-none : List ℕ → List (List ℕ) → List (List ℕ)
+unless-none [] ps = ps
+unless-none (x ∷ p) ps = (x ∷ p) ∷ ps
+
+abbrev pub left : ℕ → List (List ℕ) → List (List ℕ)
+left n [] = []
+left n (p ∷ ps) = unless-none (drop n p) ps
+
+-- what was read stands behind the unread bytes
+abbrev pub reading : Listing × List ℕ → List (List ℕ) → Stage
+reading k ps =
+    let b = k .1 in
+    let n = length b - k .0 .upto in
+    let s = taken n ps in
+    record {
+      at = afterRead (length b) (k .0) (pos (length s));
+      buffer = take (k .0 .upto) b ++ s ++ drop (k .0 .upto + length s) b;
+      pieces = left n ps;
+      over = false;
+      text = [];
+    }
+
+abbrev pub after : Next → Turn → List ℕ → List (List ℕ) → Stage
+after Line t b ps = record { at = t .listing; buffer = b; pieces = ps; over = false; text = lines.line (t .answer) (t .listing .decoder .position) }
+after Last t b ps = record { at = t .listing; buffer = b; pieces = ps; over = true; text = lines.line (t .answer) (t .listing .decoder .position) }
+after Read t b ps = reading (kept (t .listing) b) ps
+
+-- at most n steps
+unfoldable pub printed : ℕ → Stage → List ℕ
+printed zero s = []
+printed (suc n) s =
+    let t = turn (s .at) (s .buffer) in
+    let next = after (t .next) t (s .buffer) (s .pieces) in
+    next .text ++ cond (next .over) [] (printed n next)
+
+-- the list of an input that comes in these pieces, in a buffer of so many zero bytes
+abbrev pub list : ℕ → List (List ℕ) → List ℕ
+list size pieces = printed 32 (record { at = started; buffer = replicate size 0; pieces = pieces; over = false; text = [] })
+
+-- ---- D1
+
+abbrev pub d1 : List ℕ
+d1 = 0x4E ∷ 0x01 ∷ 0x89 ∷ 0xA1 ∷ 0x87 ∷ 0xA2 ∷ 0x81 ∷ 0x78 ∷ 0xA3 ∷ 0x82 ∷ 0x6D ∷ 0x6C ∷ []
+
+-- "S 4E01 0", "S A1 3", "U A2 5 120", "T A3 8 10 12", "E A1 3", "E 4E01 0", "Z 12"
+abbrev pub d1Text : List ℕ
+d1Text =
+    83 ∷ 32 ∷ 52 ∷ 69 ∷ 48 ∷ 49 ∷ 32 ∷ 48 ∷ 10
+    ∷ 83 ∷ 32 ∷ 65 ∷ 49 ∷ 32 ∷ 51 ∷ 10
+    ∷ 85 ∷ 32 ∷ 65 ∷ 50 ∷ 32 ∷ 53 ∷ 32 ∷ 49 ∷ 50 ∷ 48 ∷ 10
+    ∷ 84 ∷ 32 ∷ 65 ∷ 51 ∷ 32 ∷ 56 ∷ 32 ∷ 49 ∷ 48 ∷ 32 ∷ 49 ∷ 50 ∷ 10
+    ∷ 69 ∷ 32 ∷ 65 ∷ 49 ∷ 32 ∷ 51 ∷ 10
+    ∷ 69 ∷ 32 ∷ 52 ∷ 69 ∷ 48 ∷ 49 ∷ 32 ∷ 48 ∷ 10
+    ∷ 90 ∷ 32 ∷ 49 ∷ 50 ∷ 10
+    ∷ []
+
+-- the first lines of it, up to Amount, and then "M 8"
+abbrev pub tooLarge : List ℕ
+tooLarge = take 27 d1Text ++ (77 ∷ 32 ∷ 56 ∷ 10 ∷ [])
+
+-- the first 8 bytes, cut: D3, "X 23 0"
+abbrev pub cutText : List ℕ
+cutText = take 27 d1Text ++ (88 ∷ 32 ∷ 50 ∷ 51 ∷ 32 ∷ 48 ∷ 10 ∷ [])
+
+-- every byte a piece of its own
+abbrev pub alone : List ℕ → List (List ℕ)
+alone s = map (λ (x : ℕ). x ∷ []) s
+
+-- an input in its pieces and a buffer's size, and the list
+abbrev pub examples : List (List ℕ × List ℕ)
+examples =
+    (list 16 (d1 ∷ []), d1Text)
+    -- the buffer is just the size of the largest element, Unit
+    ∷ (list 4 (d1 ∷ []), d1Text)
+    ∷ (list 4 (alone d1), d1Text)
+    ∷ (list 5 (take 7 d1 ∷ drop 7 d1 ∷ []), d1Text)
+    -- a byte less
+    ∷ (list 3 (d1 ∷ []), tooLarge)
+    ∷ (list 3 (alone d1), tooLarge)
+    -- and where the input ends with the buffer's last byte
+    ∷ (list 3 (take 11 d1 ∷ []), tooLarge)
+    ∷ (list 16 (take 8 d1 ∷ []), cutText)
+    ∷ (list 4 (alone (take 8 d1)), cutText)
+    -- the greatest u64, the least i64 (-9223372036854775808), and 16 hex digits
+    ∷ (decimal (2 ^ 64 - 1), 49 ∷ 56 ∷ 52 ∷ 52 ∷ 54 ∷ 55 ∷ 52 ∷ 52 ∷ 48 ∷ 55 ∷ 51 ∷ 55 ∷ 48 ∷ 57 ∷ 53 ∷ 53 ∷ 49 ∷ 54 ∷ 49 ∷ 53 ∷ [])
+    ∷ (signedDecimal (negsuc (2 ^ 63 - 1)), 45 ∷ 57 ∷ 50 ∷ 50 ∷ 51 ∷ 51 ∷ 55 ∷ 50 ∷ 48 ∷ 51 ∷ 54 ∷ 56 ∷ 53 ∷ 52 ∷ 55 ∷ 55 ∷ 53 ∷ 56 ∷ 48 ∷ 56 ∷ [])
+    ∷ (decimal 0, 48 ∷ [])
+    ∷ (hex 0x4E01, 52 ∷ 69 ∷ 48 ∷ 49 ∷ [])
+    ∷ (hex16 0xABCDEF, 48 ∷ 48 ∷ 48 ∷ 48 ∷ 48 ∷ 48 ∷ 48 ∷ 48 ∷ 48 ∷ 48 ∷ 65 ∷ 66 ∷ 67 ∷ 68 ∷ 69 ∷ 70 ∷ [])
+    ∷ []
+
+pub all-examples : map (λ (p : List ℕ × List ℕ). p .0) examples ≡ map (λ (p : List ℕ × List ℕ). p .1) examples
+unfolding leadingZeros beFrom readVint arrToU64 fits rows firstFit textAfter every any goodPart goodParts goodEntry goodEntries goodShape onlyIds threes fours boundOf partOf sameBound samePart samePath kindOf isMaster clipped entryOf tableOf entryFor isIdOf hasId isTyped isParent isSibling isTypedRoot isEndedBy overMax underMin isIdAt walkGlobal walkAt walkPart unknownAndEnded walkMaster minMet walkEnd goOn walkFrom validateTagPath readTagId sizeOf tooLong sizedBy sized afterId readHeader readData endFor withOpen withWaiting withNotes settledTo opened closedTo handedOut goodOpen goodState refused12 refused13 isDone firstIndex closing noted step8 reaches step9 validHeader endedTops element elementOf step11 steps10-11 steps8-11 steps6-11 step5 steps4-11 steps2-11 decide move apply cutBytes isCut finish closeAll ended decodeEof digits places lines.element lines.rangeText lines.valueText lines.eventText lines.refusalText lines.positionText lines.answerText lines.line unread called turn kept afterRead printed
+all-examples = refl
