@@ -4,7 +4,6 @@ use Rattle.event_list.proofs.Putting.{and-then}
 use borrow.Author.Needs.{needs}
 use Rattle.event_list.proofs.lines.put_refusal.Statement.{statement}
 use Rattle.event_list.proofs.lines.put_refusal.Tie as tie
-use Rattle.decoder_element.proofs.errors.error_number.Reads as error-number-reads
 
 put-requires : tie.Need-put-requires
 put-requires c κs = search needs

@@ -22,14 +22,12 @@ abbrev places-of-below : ℕ → In 0 places-of-kinds.ps
 places-of-below t =
     and 0 places-of-kinds.ps (falls 0 places-of-kinds.ps _<_ μ-places-of t) places-of.Pre
 
--- src/numerals.rt:45:9
 places-of-returns :
     (t : ℕ) →
     places-of-lts.Need-returns (places-of-below t, places-of.Post) (places-of-at t) places-of.Post
 unfolding places
 places-of-returns t c = rw (c .if1 .taken) (refl, omega arith)
 
--- src/numerals.rt:48:9
 places-of-returns-2 :
     (t : ℕ) →
     places-of-lts.Need-returns-2
@@ -41,28 +39,24 @@ places-of-returns-2 t c =
     let f = c .before .if1 .left in
     (sym (places-one (a .base) (a .most) (a .n) f (c .if2 .taken)), omega arith)
 
--- src/numerals.rt:50:15
 places-of-div-places-of : (t : ℕ) → places-of-lts.Need-div-places-of (
   places-of-below t,
   places-of.Post,
 ) (places-of-at t) places-of.Post
 places-of-div-places-of t c = omega arith
 
--- src/numerals.rt:50:31
 places-of-sub-places-of : (t : ℕ) → places-of-lts.Need-sub-places-of (
   places-of-below t,
   places-of.Post,
 ) (places-of-at t) places-of.Post
 places-of-sub-places-of t c = omega arith
 
--- src/numerals.rt:50:5
 places-of-places-of-requires : (t : ℕ) → places-of-lts.Need-places-of-requires (
   places-of-below t,
   places-of.Post,
 ) (places-of-at t) places-of.Post
 places-of-places-of-requires t c κs = omega arith
 
--- src/numerals.rt:50:5
 places-of-add-result :
     (t : ℕ) →
     places-of-lts.Need-add-result
@@ -71,7 +65,6 @@ places-of-add-result :
     places-of.Post
 places-of-add-result t c = omega arith
 
--- src/numerals.rt:40:1
 places-of-returns-3 :
     (t : ℕ) →
     places-of-lts.Need-returns-3

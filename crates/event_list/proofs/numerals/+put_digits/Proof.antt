@@ -27,7 +27,6 @@ abbrev put-digits-below : ℕ → In 1 put-digits-kinds.ps
 put-digits-below t =
     and 1 put-digits-kinds.ps (falls 1 put-digits-kinds.ps _<_ μ-put-digits t) put-digits.Pre
 
--- src/numerals.rt:33:9
 put-digits-returns : (t : ℕ) → put-digits-lts.Need-returns (
   put-digits-below t,
   put-digits.Post,
@@ -39,7 +38,6 @@ put-digits-returns : (t : ℕ) → put-digits-lts.Need-returns (
 unfolding digits
 put-digits-returns t c = rw (c .if1 .taken) (nothing _ _)
 
--- src/numerals.rt:35:27
 put-digits-div-put-digits : (t : ℕ) → put-digits-lts.Need-div-put-digits (
   put-digits-below t,
   put-digits.Post,
@@ -50,7 +48,6 @@ put-digits-div-put-digits : (t : ℕ) → put-digits-lts.Need-div-put-digits (
 ) (put-digits-at t) put-digits.Post
 put-digits-div-put-digits t c = omega arith
 
--- src/numerals.rt:35:43
 put-digits-sub-put-digits : (t : ℕ) → put-digits-lts.Need-sub-put-digits (
   put-digits-below t,
   put-digits.Post,
@@ -61,7 +58,6 @@ put-digits-sub-put-digits : (t : ℕ) → put-digits-lts.Need-sub-put-digits (
 ) (put-digits-at t) put-digits.Post
 put-digits-sub-put-digits t c = omega arith
 
--- src/numerals.rt:35:9
 put-digits-put-digits-requires : (t : ℕ) → put-digits-lts.Need-put-digits-requires (
   put-digits-below t,
   put-digits.Post,
@@ -72,7 +68,6 @@ put-digits-put-digits-requires : (t : ℕ) → put-digits-lts.Need-put-digits-re
 ) (put-digits-at t) put-digits.Post
 put-digits-put-digits-requires t c κs = omega arith
 
--- src/numerals.rt:36:18
 put-digits-rem-glyph-of : (t : ℕ) → put-digits-lts.Need-rem-glyph-of (
   put-digits-below t,
   put-digits.Post,
@@ -83,7 +78,6 @@ put-digits-rem-glyph-of : (t : ℕ) → put-digits-lts.Need-rem-glyph-of (
 ) (put-digits-at t) put-digits.Post
 put-digits-rem-glyph-of t c = omega arith
 
--- src/numerals.rt:36:9
 put-digits-glyph-of-requires : (t : ℕ) → put-digits-lts.Need-glyph-of-requires (
   put-digits-below t,
   put-digits.Post,
@@ -97,7 +91,6 @@ put-digits-glyph-of-requires t c κs =
     let h : 0 < s .args .base = omega arith in
     omega (arith, mod-lt (s .args .n) h)
 
--- src/numerals.rt:36:5
 put-digits-put-requires : (t : ℕ) → put-digits-lts.Need-put-requires (
   put-digits-below t,
   put-digits.Post,
@@ -108,7 +101,6 @@ put-digits-put-requires : (t : ℕ) → put-digits-lts.Need-put-requires (
 ) (put-digits-at t) put-digits.Post
 put-digits-put-requires t c κs = omega arith
 
--- src/numerals.rt:28:1
 put-digits-same-length : (t : ℕ) → put-digits-lts.Need-same-length (
   put-digits-below t,
   put-digits.Post,
@@ -119,7 +111,6 @@ put-digits-same-length : (t : ℕ) → put-digits-lts.Need-same-length (
 ) (put-digits-at t) put-digits.Post
 put-digits-same-length t c = omega arith
 
--- src/numerals.rt:28:1
 put-digits-returns-2 : (t : ℕ) → put-digits-lts.Need-returns-2 (
   put-digits-below t,
   put-digits.Post,

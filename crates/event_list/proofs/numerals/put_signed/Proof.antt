@@ -5,29 +5,19 @@ use Rattle.event_list.proofs.Digits.{put-negative, put-natural}
 use borrow.Author.Needs.{needs}
 use Rattle.event_list.proofs.numerals.put_signed.Statement.{statement}
 use Rattle.event_list.proofs.numerals.put_signed.Tie as tie
-use Rattle.event_list.proofs.numerals.put_signed.Reads as reads
-use Rattle.event_list.proofs.numerals.put_signed.Lts as lts
-use Rattle.event_list.proofs.numerals.distance.Reads as distance-reads
-use Rattle.event_list.proofs.numerals.put.Reads as put-reads
-use Rattle.event_list.proofs.numerals.put_decimal.Reads as put-decimal-reads
 
--- src/numerals.rt:86:13
 put-requires : tie.Need-put-requires
 put-requires c κs = search needs
 
--- src/numerals.rt:87:28
 distance-requires : tie.Need-distance-requires
 distance-requires c κs = search needs
 
--- src/numerals.rt:87:9
 put-decimal-requires : tie.Need-put-decimal-requires
 put-decimal-requires c κs = search needs
 
--- src/numerals.rt:87:9
 same-length : tie.Need-same-length
 same-length c = search needs
 
--- src/numerals.rt:87:9
 returns : tie.Need-returns
 returns c =
     let d = c .before .before .before .before in
@@ -37,19 +27,15 @@ returns c =
     let same = toZ-ofZ w64 (s .args .v) (s .fits .v) in
     put-negative (s .args .v) (rw same at (i .if1 .taken)) (rw same at (d .distance .ensures)) (p .put .ensures) (c .before .before .put-decimal .ensures)
 
--- src/numerals.rt:89:17
 distance-requires-2 : tie.Need-distance-requires-2
 distance-requires-2 c κs = search needs
 
--- src/numerals.rt:89:5
 put-decimal-requires-2 : tie.Need-put-decimal-requires-2
 put-decimal-requires-2 c κs = search needs
 
--- src/numerals.rt:81:1
 same-length-2 : tie.Need-same-length-2
 same-length-2 c = search needs
 
--- src/numerals.rt:81:1
 returns-2 : tie.Need-returns-2
 returns-2 c =
     let d = c .before .before .before .before in
