@@ -1,7 +1,9 @@
 pub mod Buffers
+pub mod Cuts
 pub mod Digits
 pub mod Examples
 pub mod Putting
 pub mod ReadBack
+pub mod Settles
 pub mod Taking
 pub mod Unique
