@@ -3,7 +3,7 @@
 -- Assumes nothing.
 use Prim.Native.Nat.{ℕ, zero, suc, _+_, _^_, _≤_, _<_}
 use mathlib.Core.Path.{_≡_, refl, sym, ap, _∙_}
-use mathlib.Core.Bool.{Bool, true, false, cond, not, _&&_, _||_}
+use mathlib.Core.Bool.{Bool, true, false, cond, false≢true}
 use mathlib.Core.List.{List, [], _∷_, _++_, map}
 use native.Mathlib.Omega.{arith}
 use native.Mathlib.Decide.{decLe}
@@ -14,6 +14,7 @@ use lib.Seq.{take-append-le, drop-append-le}
 use Rattle.tools.specs.Bytes.{Octets}
 use Rattle.table.specs.Shape.{goodShape}
 use Rattle.table.specs.Table.{Entry, tableOf, isMaster}
+use Rattle.table.specs.declared.types.Path.{Path}
 use Rattle.tag_parse.specs.Header.{readHeader}
 use Rattle.tag_parse.specs.declared.types.EBMLSize.{EBMLSize}
 use Rattle.tag_parse.specs.declared.types.EBMLSize.the-variants.{Known, Unknown}
@@ -31,7 +32,16 @@ use Rattle.decoder_state.specs.declared.types.Check.the-variants.{Pass, Fail}
 use Rattle.decoder_state.specs.declared.types.Decision.{Decision}
 use Rattle.decoder_state.specs.declared.types.DecodeError.the-variants as error
 use Rattle.decoder_state.specs.declared.types.Decoded.{Decoded}
+use Rattle.decoder_state.specs.declared.types.Note.{Note}
+use Rattle.decoder_state.specs.declared.types.Note.the-variants.{NoNote, Settle}
 use Rattle.decoder_state.specs.declared.types.TagDecoder.{TagDecoder}
+use Rattle.event_list.proofs.Settles.{Passed, passed, on-header, decided, note-is, settled-once}
+
+no-answer : _≡_ {A = ℕ} 0 1 → ⊥
+no-answer e = omega arith
+
+no-bytes : (n : ℕ) → n ≡ 0 → eqb n 0 ≡ false → ⊥
+no-bytes n z e = false≢true (sym e ∙ eq-eqb n 0 z)
 
 -- ---- an answer stays when bytes are appended
 
@@ -87,6 +97,7 @@ module _ (u : List ℕ) where
       where
         e : TagDecoder
         e = noted ps d (step7 ps d h)
+
         first : (test : Bool)
             → (cond test (record { note = step7 ps d h; action = steps8-11 t e h s }) (plain (act.Refuse error.InvalidTagId)) .action ≡ act.NeedMore → ⊥)
             → cond test (record { note = step7 ps d h; action = steps8-11 t e h (s ++ u) }) (plain (act.Refuse error.InvalidTagId))
@@ -151,3 +162,48 @@ module _ (es ps : List ℕ) (d : TagDecoder) (s u : List ℕ) (byte : getD s 0 0
   unfolding apply
   decode-local some =
       ap (apply ps d) (decide-local (λ q. some (more-answers-more (noted ps d (decide es ps d s .note)) (decide es ps d s .action) q)))
+
+-- ---- a call that needs more, and the next
+
+more-stays : (e : TagDecoder) (a : Action) → move e a .answer ≡ answer.NeedMore → move e a .state ≡ e
+unfolding move
+more-stays e (act.Refuse x) q = let z : _≡_ {A = ℕ} 0 1 = cc in absurd (no-answer z)
+more-stays e act.NeedMore q = refl
+more-stays e act.Finish q = let z : _≡_ {A = ℕ} 0 1 = cc in absurd (no-answer z)
+more-stays e act.HandOut q = let z : _≡_ {A = ℕ} 0 1 = cc in absurd (no-answer z)
+more-stays e (act.Close k) q = let z : _≡_ {A = ℕ} 0 1 = cc in absurd (no-answer z)
+more-stays e (act.Start x y l) q = let z : _≡_ {A = ℕ} 0 1 = cc in absurd (no-answer z)
+more-stays e (act.Data x v m) q = let z : _≡_ {A = ℕ} 0 1 = cc in absurd (no-answer z)
+
+octets-front : (s u : List ℕ) → Octets (s ++ u) → Octets s
+octets-front [] u byte i = omega arith
+octets-front (x ∷ s) u byte zero = byte 0
+octets-front (x ∷ s) u byte (suc i) = octets-front s u (λ j. byte (suc j)) i
+
+module _ (es ps : List ℕ) (d : TagDecoder) (s u : List ℕ) (byte : Octets (s ++ u)) (open-still : d .finished ≡ false) (near : d .position + length (s ++ u) ≤ 2 ^ 62) where
+  -- a note that is made on the first bytes is made on all
+  note-local : (path : Path) → decide es ps d s .note ≡ Settle path → decide es ps d (s ++ u) .note ≡ Settle path
+  note-local path q =
+      let front = octets-front s u byte in
+      let w = passed es ps d s q in
+      let t = tableOf es ps in
+      let less : d .position + length s ≤ 2 ^ 62 = omega (arith, length-append s u) in
+      let first = step1-local es ps d (length s) (length (s ++ u)) open-still less near ∙ w .first in
+      let here : length s ≡ 0 → ⊥ = λ z. no-bytes (length s) z (w .some) in
+      let some : length (s ++ u) ≡ 0 → ⊥ = λ z. here (omega (arith, length-append s u)) in
+      let whole : readHeader t s ≡ header.NeedMore → ⊥ = λ e. let z : _≡_ {A = ℕ} 0 1 = cc (w .read) in no-answer z in
+      let read = header-local t s u (front 0) whole ∙ w .read in
+      let all = on-header es ps d (s ++ u) (w .h) first (w .none-waits) (w .not-finished) (w .none-done) (ne-eqb (length (s ++ u)) 0 some) read (w .typed) in
+      ap (λ (a : Decision). a .note) all ∙ note-is es ps d s w
+
+  again : (n : Note) → decide es ps d s .note ≡ n → decode es ps (noted ps d n) (s ++ u) ≡ decode es ps d (s ++ u)
+  unfolding noted
+  again NoNote q = refl
+  again (Settle path) q = settled-once es ps d (s ++ u) byte (Settle path) (note-local path q)
+
+  -- a call that needed more has changed nothing for the next, whatever it is lent then
+  pub asked-again : decode es ps d s .answer ≡ answer.NeedMore → decode es ps (decode es ps d s .state) (s ++ u) ≡ decode es ps d (s ++ u)
+  unfolding apply
+  asked-again q =
+      let a = decide es ps d s in
+      rw (more-stays (noted ps d (a .note)) (a .action) q) (again (a .note) refl)
