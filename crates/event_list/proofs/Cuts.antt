@@ -175,7 +175,7 @@ more-stays e (act.Close k) q = let z : _≡_ {A = ℕ} 0 1 = cc in absurd (no-an
 more-stays e (act.Start x y l) q = let z : _≡_ {A = ℕ} 0 1 = cc in absurd (no-answer z)
 more-stays e (act.Data x v m) q = let z : _≡_ {A = ℕ} 0 1 = cc in absurd (no-answer z)
 
-octets-front : (s u : List ℕ) → Octets (s ++ u) → Octets s
+pub octets-front : (s u : List ℕ) → Octets (s ++ u) → Octets s
 octets-front [] u byte i = omega arith
 octets-front (x ∷ s) u byte zero = byte 0
 octets-front (x ∷ s) u byte (suc i) = octets-front s u (λ j. byte (suc j)) i

@@ -2,8 +2,10 @@ pub mod Buffers
 pub mod Cuts
 pub mod Digits
 pub mod Examples
+pub mod Finishing
 pub mod Putting
 pub mod ReadBack
 pub mod Settles
 pub mod Taking
 pub mod Unique
+pub mod Views

@@ -3,3 +3,4 @@ pub mod Line
 pub mod BenchTable
 pub mod Puts
 pub mod Reading
+pub mod Whole
