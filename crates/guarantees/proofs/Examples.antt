@@ -1,0 +1,79 @@
+-- Document 01's D1, D2 and D5 as histories: what a caller can tell from the calls and their answers, computed. Assumes nothing.
+use Prim.Native.Nat.{ℕ}
+use mathlib.Core.Path.{_≡_, refl}
+use mathlib.Core.List.{List, [], _∷_, _++_, map, reverse}
+use lib.Count.{leadingZeros}
+use lib.ListN.{length, take, drop, set, replicate}
+use lib.Ieee.{nanBits, toBits, ofBits}
+use Rattle.tools.specs.Bytes.{beFrom}
+use Rattle.tools.specs.Vint.{readVint}
+use Rattle.tools.specs.Twos.{signedOf}
+use Rattle.tools.specs.Integer.{arrToU64, arrToI64}
+use Rattle.tools.specs.Float.{arrToF64, widened}
+use Rattle.utf8.specs.Rfc3629.{fits, rows, firstFit, textAfter}
+use Rattle.table.specs.Lists.{every, any}
+use Rattle.table.specs.Shape.{goodPart, goodParts, goodEntry, goodEntries, goodShape}
+use Rattle.table.specs.Check.{onlyIds}
+use Rattle.table.specs.Table.{Entry, threes, fours, boundOf, partOf, sameBound, samePart, samePath, kindOf, isMaster, isTyped, clipped, entryOf, tableOf, entryFor}
+use Rattle.spec_util.specs.Ended.{isIdOf, hasId, isParent, isSibling, isTypedRoot, isEndedBy}
+use Rattle.spec_util.specs.Walk.{noTag, overMax, underMin, isIdAt, walkGlobal, walkAt, walkPart, unknownAndEnded, walkMaster, minMet, walkEnd, goOn, walkFrom, validateTagPath}
+use Rattle.tag_parse.specs.Header.{readTagId, sizeOf, tooLong, sizedBy, sized, afterId, readHeader}
+use Rattle.tag_parse.specs.Payload.{readData}
+use Rattle.decoder_state.specs.State.{noEnd, fresh, endFor, withOpen, withWaiting, withNotes, settledTo, opened, closedTo, handedOut, grownBy, grown}
+use Rattle.decoder_state.specs.OneCall.{goodOpen, goodState, refused12, refused13, isDone, firstIndex, closing, noted, step8, reaches, step9, validHeader, endedTops, element, elementOf, step11, steps10-11, steps8-11, steps6-11, step5, steps4-11, steps2-11, decide, move, apply, cutBytes, isCut, finish, closeAll, ended, decodeEof, atPlace, scan, tryRecover}
+use Rattle.decoder_state.specs.declared.types.Given.the-variants.{Nothing, Number}
+use Rattle.decoder_state.proofs.Starred.{entries, parts}
+use Rattle.guarantees.specs.Calls.{Call, ending, recovering, recordAfter, history, impliedBy, placeNote, scanNote}
+use Rattle.guarantees.specs.History.{Started, declaredEnd, later, startsOpen, parentsLeft, position}
+
+-- the calls of a caller who lends all that is left each time, up to the end of input: the first n calls on the bytes s, of which each takes as many as
+-- this list says; latest first
+unfoldable pub lending : List ℕ → List ℕ → List Call → List Call
+lending [] s made = made
+lending (n ∷ taken) s made = lending taken (drop n s) (ending s ∷ made)
+
+abbrev d1 : List ℕ
+d1 = 0x4E ∷ 0x01 ∷ 0x89 ∷ 0xA1 ∷ 0x87 ∷ 0xA2 ∷ 0x81 ∷ 0x78 ∷ 0xA3 ∷ 0x82 ∷ 0x6D ∷ 0x6C ∷ []
+
+abbrev d2 : List ℕ
+d2 = 0x4E ∷ 0x01 ∷ 0xFF ∷ 0xA1 ∷ 0xFF ∷ 0xA2 ∷ 0x81 ∷ 0x78 ∷ []
+
+abbrev d5 : List ℕ
+d5 = 0xA2 ∷ 0x81 ∷ 0x78 ∷ []
+
+abbrev bench : List Entry
+bench = tableOf entries parts
+
+-- what a caller can tell after these calls: the Starts that are open, the implied parents that are left, and the position
+abbrev seen : List Call → List Started × List ℕ × ℕ
+seen cs = (startsOpen bench (history entries parts cs), parentsLeft bench (history entries parts cs), position (history entries parts cs))
+
+pub record Seen : Type 0 where
+  -- D1 after its Data, after the first End, and at the finish
+  pub d1-data : seen (lending (3 ∷ 2 ∷ 3 ∷ 4 ∷ []) d1 []) ≡ (record { id = 0xA1; offset = 3; end = Number 12 } ∷ record { id = 0x4E01; offset = 0; end = Number 12 } ∷ [], [], 12)
+  pub d1-end : seen (lending (3 ∷ 2 ∷ 3 ∷ 4 ∷ 0 ∷ []) d1 []) ≡ (record { id = 0x4E01; offset = 0; end = Number 12 } ∷ [], [], 12)
+  pub d1-finish : seen (lending (3 ∷ 2 ∷ 3 ∷ 4 ∷ 0 ∷ 0 ∷ 0 ∷ []) d1 []) ≡ ([], [], 12)
+  -- D2: sizes unknown
+  pub d2-data : seen (lending (3 ∷ 2 ∷ 3 ∷ []) d2 []) ≡ (record { id = 0xA1; offset = 3; end = Nothing } ∷ record { id = 0x4E01; offset = 0; end = Nothing } ∷ [], [], 8)
+  -- D5: reading begins below the root, so that Feed and Session are implied
+  pub d5-data : seen (lending (3 ∷ []) d5 []) ≡ ([], 0xA1 ∷ 0x4E01 ∷ [], 3)
+  pub d5-end : seen (lending (3 ∷ 0 ∷ []) d5 []) ≡ ([], 0x4E01 ∷ [], 3)
+  pub d5-finish : seen (lending (3 ∷ 0 ∷ 0 ∷ 0 ∷ []) d5 []) ≡ ([], [], 3)
+  -- a recovery after the Amount of D1 that passes over two bytes: the open ends grow by two
+  pub recovered : seen (recovering (0x00 ∷ 0x00 ∷ 0xA3 ∷ 0x80 ∷ []) ∷ lending (3 ∷ 2 ∷ 3 ∷ []) d1 []) ≡ (record { id = 0xA1; offset = 3; end = Number 14 } ∷ record { id = 0x4E01; offset = 0; end = Number 14 } ∷ [], [], 10)
+  -- a recovery on a fresh decoder settles
+  pub implying : seen (recovering d5 ∷ []) ≡ ([], 0xA1 ∷ 0x4E01 ∷ [], 0)
+
+pub seen-so : Seen
+unfolding signedOf nanBits toBits ofBits leadingZeros beFrom readVint arrToU64 arrToI64 arrToF64 widened fits rows firstFit textAfter every any goodPart goodParts goodEntry goodEntries goodShape onlyIds threes fours boundOf partOf sameBound samePart samePath kindOf isMaster clipped entryOf tableOf entryFor isIdOf hasId isTyped isParent isSibling isTypedRoot isEndedBy overMax underMin isIdAt walkGlobal walkAt walkPart unknownAndEnded walkMaster minMet walkEnd goOn walkFrom validateTagPath readTagId sizeOf tooLong sizedBy sized afterId readHeader readData endFor withOpen withWaiting withNotes settledTo opened closedTo handedOut grownBy grown goodOpen goodState refused12 refused13 isDone firstIndex closing noted step8 reaches step9 validHeader endedTops element elementOf step11 steps10-11 steps8-11 steps6-11 step5 steps4-11 steps2-11 decide move apply cutBytes isCut finish closeAll ended decodeEof scan atPlace tryRecover recordAfter history impliedBy placeNote scanNote declaredEnd later startsOpen parentsLeft position lending
+seen-so = record {
+  d1-data = refl;
+  d1-end = refl;
+  d1-finish = refl;
+  d2-data = refl;
+  d5-data = refl;
+  d5-end = refl;
+  d5-finish = refl;
+  recovered = refl;
+  implying = refl;
+}

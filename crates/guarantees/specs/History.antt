@@ -1,0 +1,144 @@
+-- What a caller can tell from the calls and their answers alone: the Starts that have not had their End, the implied parents that are left, and the
+-- position. Nothing here is read off the decoder's record. A history stands latest first.
+use Prim.Native.Nat.{ℕ, _+_}
+use mathlib.Core.Bool.{Bool, true, false, not, _&&_}
+use mathlib.Core.List.{List, [], _∷_, _++_, map}
+use lib.ListN.{drop}
+use Rattle.table.specs.Lists.{every}
+use Rattle.table.specs.Table.{Entry}
+use Rattle.tag_parse.specs.Header.{readHeader}
+use Rattle.tag_parse.specs.declared.types.EBMLSize.{EBMLSize}
+use Rattle.tag_parse.specs.declared.types.EBMLSize.the-variants.{Known, Unknown}
+use Rattle.tag_parse.specs.declared.types.ReadHeader.{ReadHeader}
+use Rattle.tag_parse.specs.declared.types.ReadHeader.the-variants as header
+use Rattle.decoder_state.specs.declared.types.Answer.{Answer}
+use Rattle.decoder_state.specs.declared.types.Answer.the-variants as answer
+use Rattle.decoder_state.specs.declared.types.Event.{Event}
+use Rattle.decoder_state.specs.declared.types.Event.the-variants as event
+use Rattle.decoder_state.specs.declared.types.Given.{Given}
+use Rattle.decoder_state.specs.declared.types.Given.the-variants.{Nothing, Number}
+use Rattle.decoder_state.specs.declared.types.Search.{Search}
+use Rattle.decoder_state.specs.declared.types.Search.the-variants as search
+use Rattle.guarantees.specs.Calls.{Call, decoding, ending, recovering, allow, limit, lent, Told, answered, searched, silent, Step}
+
+-- ---- where an element ends
+
+-- the first place past an element of this size, whose data start at p
+abbrev pub endAfter : ℕ → EBMLSize → Given
+endAfter p Unknown = Nothing
+endAfter p (Known n) = Number (p + n)
+
+abbrev pub headerEnd : ℕ → ReadHeader → Given
+headerEnd p header.NeedMore = Nothing
+headerEnd p (header.Refused e) = Nothing
+headerEnd p (header.Header h) = endAfter (p + h .len) (h .size)
+
+-- where the element at offset p ends, if its size is known: as the header at the front of the bytes lent says
+unfoldable pub declaredEnd : List Entry → ℕ → List ℕ → Given
+declaredEnd t p s = headerEnd p (readHeader t s)
+
+-- ---- the Starts that have not had their End, the last one first
+
+-- a Start's ID and offset, and where its master ends, if its size is known
+pub record Started : Type 0 where
+  pub id : ℕ
+  pub offset : ℕ
+  pub end : Given
+
+-- "every open known size grows by the bytes passed over"
+abbrev pub laterEnd : ℕ → Given → Given
+laterEnd n Nothing = Nothing
+laterEnd n (Number e) = Number (e + n)
+
+unfoldable pub later : ℕ → Started → Started
+later n m = record { id = m .id; offset = m .offset; end = laterEnd n (m .end) }
+
+module _ (t : List Entry) (s : List ℕ) where
+  -- a Start opens one more, an End takes the last away
+  abbrev pub afterEvent : Event → List Started → List Started
+  afterEvent (event.Start x o) l = record { id = x; offset = o; end = declaredEnd t o s } ∷ l
+  afterEvent (event.End x o) l = drop 1 l
+  afterEvent (event.Data x o v) l = l
+
+  abbrev pub afterAnswer : Answer → List Started → List Started
+  afterAnswer (answer.Event e) l = afterEvent e l
+  afterAnswer answer.NeedMore l = l
+  afterAnswer answer.Finished l = l
+  afterAnswer (answer.Refused r) l = l
+
+  -- a recovery that found a header passed over n bytes
+  abbrev pub afterSearch : Search → ℕ → List Started → List Started
+  afterSearch search.Found n l = map (later n) l
+  afterSearch search.NotFound n l = l
+  afterSearch (search.Refused r) n l = l
+
+  abbrev pub afterTold : Told → List Started → List Started
+  afterTold (answered a n) l = afterAnswer a l
+  afterTold (searched a n) l = afterSearch a n l
+  afterTold silent l = l
+
+unfoldable pub startsOpen : List Entry → List Step → List Started
+startsOpen t [] = []
+startsOpen t (s ∷ h) = afterTold t (lent (s .call)) (s .told) (startsOpen t h)
+
+-- ---- the implied parents that have not had their End, the innermost first
+
+-- an End that comes while no Start is open takes the first of them away
+abbrev pub leftByEnd : List Started → List ℕ → List ℕ
+leftByEnd [] l = drop 1 l
+leftByEnd (m ∷ starts) l = l
+
+abbrev pub leftByEvent : Event → List Started → List ℕ → List ℕ
+leftByEvent (event.Start x o) starts l = l
+leftByEvent (event.End x o) starts l = leftByEnd starts l
+leftByEvent (event.Data x o v) starts l = l
+
+abbrev pub leftByAnswer : Answer → List Started → List ℕ → List ℕ
+leftByAnswer (answer.Event e) starts l = leftByEvent e starts l
+leftByAnswer answer.NeedMore starts l = l
+leftByAnswer answer.Finished starts l = l
+leftByAnswer (answer.Refused r) starts l = l
+
+abbrev pub leftBy : Told → List Started → List ℕ → List ℕ
+leftBy (answered a n) starts l = leftByAnswer a starts l
+leftBy (searched a n) starts l = l
+leftBy silent starts l = l
+
+unfoldable pub parentsLeft : List Entry → List Step → List ℕ
+parentsLeft t [] = []
+parentsLeft t (s ∷ h) = leftBy (s .told) (startsOpen t h) (s .parents ++ parentsLeft t h)
+
+-- ---- the position, which is the count of all bytes taken
+
+abbrev pub takenBy : Told → ℕ
+takenBy (answered a n) = n
+takenBy (searched a n) = n
+takenBy silent = 0
+
+unfoldable pub position : List Step → ℕ
+position [] = 0
+position (s ∷ h) = position h + takenBy (s .told)
+
+-- ---- what was never done
+
+-- no call switched the child-size test off
+abbrev pub keepsChildTest : Call → Bool
+keepsChildTest (decoding s) = true
+keepsChildTest (ending s) = true
+keepsChildTest (recovering s) = true
+keepsChildTest (allow ids hierarchy oversized) = not oversized
+keepsChildTest (limit n) = true
+
+abbrev pub childTestNeverOff : List Call → Bool
+childTestNeverOff cs = every keepsChildTest cs
+
+-- no call was a recovery
+abbrev pub isNoRecovery : Call → Bool
+isNoRecovery (decoding s) = true
+isNoRecovery (ending s) = true
+isNoRecovery (recovering s) = false
+isNoRecovery (allow ids hierarchy oversized) = true
+isNoRecovery (limit n) = true
+
+abbrev pub neverRecovered : List Call → Bool
+neverRecovered cs = every isNoRecovery cs

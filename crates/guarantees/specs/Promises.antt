@@ -1,0 +1,100 @@
+-- The promises of demand 3 as statements over any calls on a fresh decoder: each speaks of the last of the calls, whatever the calls before it were.
+use Prim.Native.Nat.{ℕ, _+_, _≤_, _<_}
+use mathlib.Core.Path.{_≡_}
+use mathlib.Core.Bool.{Bool, true, false}
+use mathlib.Core.List.{List, [], _∷_, List·Memᴰ}
+use lib.ListN.{length}
+use Rattle.table.specs.Check.{checkTable}
+use Rattle.table.specs.Table.{Entry, tableOf, dataTypeOf}
+use Rattle.table.specs.declared.types.Checked.the-variants.{Passed}
+use Rattle.table.specs.declared.types.TagDataType.{TagDataType}
+use Rattle.table.specs.declared.types.TagDataType.the-variants as type
+use Rattle.tag_parse.specs.declared.types.TagValue.{TagValue}
+use Rattle.tag_parse.specs.declared.types.TagValue.the-variants as value
+use Rattle.decoder_state.specs.OneCall.{errorNumber}
+use Rattle.decoder_state.specs.declared.types.Answer.{Answer}
+use Rattle.decoder_state.specs.declared.types.Answer.the-variants as answer
+use Rattle.decoder_state.specs.declared.types.Event.{Event}
+use Rattle.decoder_state.specs.declared.types.Event.the-variants as event
+use Rattle.decoder_state.specs.declared.types.Given.{Given}
+use Rattle.decoder_state.specs.declared.types.Given.the-variants.{Nothing, Number}
+use Rattle.decoder_state.specs.declared.types.Search.{Search}
+use Rattle.decoder_state.specs.declared.types.Search.the-variants as search
+use Rattle.guarantees.specs.Calls.{Call, lent, Told, answered, searched, silent, toldBy, recordAfter, history, Lent}
+use Rattle.guarantees.specs.History.{Started, declaredEnd, startsOpen, parentsLeft, position}
+
+-- ---- what stands in an answer
+
+-- the number of a refusal; 0 for any other answer
+abbrev pub answerRefusal : Answer → ℕ
+answerRefusal (answer.Event e) = 0
+answerRefusal answer.NeedMore = 0
+answerRefusal answer.Finished = 0
+answerRefusal (answer.Refused r) = errorNumber (r .error)
+
+abbrev pub searchRefusal : Search → ℕ
+searchRefusal search.Found = 0
+searchRefusal search.NotFound = 0
+searchRefusal (search.Refused r) = errorNumber (r .error)
+
+abbrev pub refusalOf : Told → ℕ
+refusalOf (answered a n) = answerRefusal a
+refusalOf (searched a n) = searchRefusal a
+refusalOf silent = 0
+
+-- the kind of a value: raw stands for an ID to which the table gives no type
+abbrev pub valueKind : TagValue → TagDataType
+valueKind (value.UnsignedInt v) = type.UnsignedInt
+valueKind (value.Integer v) = type.Integer
+valueKind (value.Utf8 r) = type.Utf8
+valueKind (value.Binary r) = type.Binary
+valueKind (value.Float b) = type.Float
+valueKind (value.Raw r) = type.Untyped
+
+abbrev pub eventKind : Event → TagDataType
+eventKind (event.Start x o) = type.Master
+eventKind (event.End x o) = type.Master
+eventKind (event.Data x o v) = valueKind v
+
+abbrev pub eventId : Event → ℕ
+eventId (event.Start x o) = x
+eventId (event.End x o) = x
+eventId (event.Data x o v) = x
+
+-- ---- the table and the calls that the promises speak of
+
+pub record Runs (es ps : List ℕ) (cs : List Call) : Type 0 where
+  -- "Fix one table that the table check passes"
+  pub checked : checkTable es ps ≡ Passed
+  -- what is lent are octets
+  pub octets : Lent cs
+
+-- the last call answers this event, and takes so many bytes
+abbrev pub Tells : List ℕ → List ℕ → Call → List Call → Answer → Type 0
+Tells es ps c cs a = (n : ℕ) × (toldBy es ps (recordAfter es ps cs) c ≡ answered a n)
+
+-- ---- 3
+
+-- an End of ID x and offset o, where these Starts are open and these implied parents are left: "Each End names the last Start still open or, where none
+-- is open, the innermost parent left of those implied because reading began below the root. (Start and its End also agree in offset; an
+-- implied parent's is 0.)"
+abbrev pub EndMatches : List Started → List ℕ → ℕ → ℕ → Type 0
+EndMatches [] [] x o = ⊥
+EndMatches [] (y ∷ left) x o = (x ≡ y) × (o ≡ 0)
+EndMatches (m ∷ starts) left x o = (x ≡ m .id) × (o ≡ m .offset)
+
+-- ---- 5
+
+-- an element that ends at e ends inside every master of known size of these
+abbrev pub EndsInside : ℕ → List Started → Type 0
+EndsInside e starts = (m : Started) → List·Memᴰ m starts → (f : ℕ) → m .end ≡ Number f → e ≤ f
+
+-- ---- cut records
+
+-- "a master of known size is open and not full": of these Starts that are open one has an end beyond the place p
+pub record NotFull (starts : List Started) (p : ℕ) : Type 0 where
+  pub master : Started
+  pub still-open : List·Memᴰ master starts
+  pub end : ℕ
+  pub known : master .end ≡ Number end
+  pub beyond : p < end
