@@ -1,2 +1,4 @@
 pub mod Examples
 pub mod Decided
+pub mod Tied
+pub mod Moves

@@ -1,0 +1,128 @@
+-- The invariant that ties the decoder's record to what a caller can tell: the waiting Ends and then the open masters, from the top down, are exactly the
+-- Starts that are open and then the implied parents that are left. Each move of the record keeps it. Assumes nothing.
+use Prim.Native.Nat.{ℕ, zero, suc, _+_, _-_, _^_, _≤_, _<_}
+use mathlib.Core.Path.{_≡_, refl, sym, ap, _∙_, subst}
+use mathlib.Core.Bool.{Bool, true, false, cond, not, _&&_, _||_, true≢false, false≢true}
+use mathlib.Core.List.{List, [], _∷_, _++_, map, reverse, append-assoc, append-nil, map-append, reverse-append}
+use native.Mathlib.Omega.{arith}
+use borrow.Author.Tests.{leb-true, le-leb}
+use lib.Dec.{leb, ltb, eqb}
+use lib.ListN.{length, getD, take, drop, length-append, length-map, length-reverse, take-append-drop}
+use Rattle.table.specs.Lists.{every}
+use Rattle.table.specs.Table.{Entry, partsOf, within, dataTypeOf, isMaster}
+use Rattle.table.specs.declared.types.PathPart.{PathPart}
+use Rattle.table.specs.declared.types.PathPart.the-variants.{Id, Global}
+use Rattle.spec_util.specs.declared.types.OpenTag.{OpenTag}
+use Rattle.spec_util.specs.Walk.{noTag}
+use Rattle.decoder_state.specs.State.{opens, endOf, endFor, noEnd, fresh, implied, withOpen, withWaiting, withNotes, atPosition, settledTo, opened, closedTo, handedOut, grownBy, grown}
+use Rattle.decoder_state.specs.OneCall.{goodOpen, openTag}
+use Rattle.decoder_state.specs.declared.types.Given.{Given}
+use Rattle.decoder_state.specs.declared.types.Given.the-variants.{Nothing, Number}
+use Rattle.decoder_state.specs.declared.types.WaitingEnd.{WaitingEnd}
+use Rattle.decoder_state.specs.declared.types.TagDecoder.{TagDecoder}
+use Rattle.decoder_state.proofs.Good.{GoodState, every-append, and-both, both, is-good-open}
+use Rattle.decoder_state.proofs.Kept.{waits, Arrays, opens-length, waits-length, fresh-arrays}
+use Rattle.decoder_state.proofs.Stays.{fresh-good}
+use Rattle.guarantees.specs.History.{Started, laterEnd, later, leftByEnd}
+use Rattle.guarantees.specs.Promises.{EndMatches}
+use Rattle.guarantees.proofs.Decided.{allMasters}
+
+-- ---- an open master as a caller saw it start
+
+abbrev pub knownEnd : Bool → ℕ → Given
+knownEnd true e = Number e
+knownEnd false e = Nothing
+
+abbrev pub asStarted : OpenTag → Started
+asStarted m = record { id = m .id; offset = m .«tag_start»; end = knownEnd (m .known) (endOf m) }
+
+-- an implied parent: offset 0, size unknown
+abbrev pub parentOf : ℕ → Started
+parentOf x = record { id = x; offset = 0; end = Nothing }
+
+-- its End
+abbrev pub asEnd : Started → WaitingEnd
+asEnd m = record { id = m .id; offset = m .offset }
+
+abbrev pub stack : List Started → List ℕ → List Started
+stack starts left = starts ++ map parentOf left
+
+-- the master ends at p or before, if its size is known
+abbrev pub endedBy : ℕ → Given → Bool
+endedBy p Nothing = true
+endedBy p (Number e) = leb e p
+
+abbrev pub allEnded : ℕ → List Started → Bool
+allEnded p l = every (λ m. endedBy p (m .end)) l
+
+abbrev pub allStarted : List Entry → List Started → Bool
+allStarted t l = every (λ m. isMaster (dataTypeOf t (m .id))) l
+
+-- ---- the invariant
+
+-- starts: the Starts that are open; left: the implied parents that are left; p: the position
+pub record Linked (t : List Entry) (d : TagDecoder) (starts : List Started) (left : List ℕ) (p : ℕ) : Type 0 where
+  pub arrays : Arrays d
+  pub good : GoodState d
+  pub masters : allMasters t (opens d) ≡ true
+  -- those whose End waits
+  pub ended : List Started
+  pub waiting : map asEnd ended ≡ waits d
+  pub parts : stack starts left ≡ ended ++ map asStarted (reverse (opens d))
+  pub kinds : allStarted t (stack starts left) ≡ true
+  pub few : length (stack starts left) ≤ 32
+  pub place : d .position ≡ p
+  pub unsettled : d .settled ≡ false → stack starts left ≡ []
+
+pub record Tied (t : List Entry) (d : TagDecoder) (starts : List Started) (left : List ℕ) (p : ℕ) : Type 0 where
+  pub linked : Linked t d starts left p
+  -- after the end of input only Starts whose End waits are open, and they are full
+  pub finished : d .finished ≡ true → length starts ≤ d .«waiting_count»
+  pub full : d .finished ≡ true → allEnded p starts ≡ true
+
+pub fresh-tied : (t : List Entry) → Tied t fresh [] [] 0
+unfolding every
+fresh-tied t = record {
+  linked = record {
+    arrays = fresh-arrays;
+    good = fresh-good;
+    masters = refl;
+    ended = [];
+    waiting = refl;
+    parts = refl;
+    kinds = refl;
+    few = omega arith;
+    place = refl;
+    unsettled = λ _. refl;
+  };
+  finished = λ e. absurd (false≢true e);
+  full = λ e. absurd (false≢true e);
+}
+
+-- ---- lists
+
+pub map-same : {A B : Type 0} (f g : A → B) → ((a : A) → f a ≡ g a) → (l : List A) → map f l ≡ map g l
+map-same f g h [] = refl
+map-same f g h (a ∷ l) = rw (h a) (ap (λ (k : List _). g a ∷ k) (map-same f g h l))
+
+-- the first of the stack gone
+pub popped : (starts : List Started) (left : List ℕ) (m : Started) (rest : List Started) → stack starts left ≡ m ∷ rest
+    → EndMatches starts left (m .id) (m .offset) × (stack (drop 1 starts) (leftByEnd starts left) ≡ rest)
+popped [] [] m rest e = let z : _≡_ {A = ℕ} 0 1 = cc in absurd (omega arith)
+popped [] (x ∷ left) m rest e =
+    let q : m ≡ parentOf x = cc in
+    let r : map parentOf left ≡ rest = cc in
+    ((ap (λ (n : Started). n .id) q, ap (λ (n : Started). n .offset) q), r)
+popped (s ∷ starts) left m rest e =
+    let q : m ≡ s = cc in
+    let r : stack starts left ≡ rest = cc in
+    ((ap (λ (n : Started). n .id) q, ap (λ (n : Started). n .offset) q), r)
+
+pub none-open : (starts : List Started) (left : List ℕ) → stack starts left ≡ [] → (starts ≡ []) × (left ≡ [])
+none-open [] [] e = (refl, refl)
+none-open [] (x ∷ left) e = let z : _≡_ {A = ℕ} 0 1 = cc in absurd (omega arith)
+none-open (s ∷ starts) left e = let z : _≡_ {A = ℕ} 0 1 = cc in absurd (omega arith)
+
+pub both-empty : {A : Type 0} (l m : List A) → l ++ m ≡ [] → (l ≡ []) × (m ≡ [])
+both-empty [] m e = (refl, e)
+both-empty (a ∷ l) m e = let z : _≡_ {A = ℕ} 0 1 = cc in absurd (omega arith)
