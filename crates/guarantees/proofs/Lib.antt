@@ -2,3 +2,4 @@ pub mod Examples
 pub mod Decided
 pub mod Tied
 pub mod Moves
+pub mod Steps

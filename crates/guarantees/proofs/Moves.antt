@@ -74,7 +74,7 @@ map-reversed : {A B : Type 0} (f : A → B) (l : List A) → map f (reverse l) �
 map-reversed f [] = refl
 map-reversed f (a ∷ l) = ap (map f) (reverse-cons a l) ∙ map-append f (reverse l) (a ∷ []) ∙ ap (λ (k : List _). k ++ (f a ∷ [])) (map-reversed f l) ∙ sym (reverse-cons (f a) (map f l))
 
-every-reversed : {A : Type 0} (test : A → Bool) (l : List A) → every test l ≡ true → every test (reverse l) ≡ true
+pub every-reversed : {A : Type 0} (test : A → Bool) (l : List A) → every test l ≡ true → every test (reverse l) ≡ true
 unfolding every
 every-reversed test [] e = refl
 every-reversed test (a ∷ l) e =
