@@ -3,3 +3,4 @@ pub mod Decided
 pub mod Tied
 pub mod Moves
 pub mod Steps
+pub mod Recovery
