@@ -4,3 +4,4 @@ pub mod Tied
 pub mod Moves
 pub mod Steps
 pub mod Recovery
+pub mod AnyCalls

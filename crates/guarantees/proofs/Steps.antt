@@ -99,6 +99,8 @@ pub record Called (t : List Entry) (off : Bool) (s : List ℕ) (starts : List St
   pub tied : Tied t e (afterAnswer t s a starts) (leftByAnswer a starts left) (p + n)
   -- the input is not ended while a Start of known size that is open is not full
   pub closes-full : e .finished ≡ true → allEnded p starts ≡ true
+  -- the child-size test is on or off as before
+  pub kept : e .«allow_oversized» ≡ off
 
 -- ---- lists
 
@@ -164,13 +166,14 @@ module _ (t : List Entry) (d : TagDecoder) (s : List ℕ) (starts : List Started
     quiet = tt;
     tied = same-place;
     closes-full = k .full;
+    kept = refl;
   }
 
   more-called : Reading d → Called t (d .«allow_oversized») s starts left (d .position) answer.NeedMore 0 d
-  more-called r = record { promised = tt; quiet = (refl, r .none-waiting); tied = same-place; closes-full = k .full }
+  more-called r = record { promised = tt; quiet = (refl, r .none-waiting); tied = same-place; closes-full = k .full; kept = refl }
 
   finished-called : d .«waiting_count» ≡ 0 → d .finished ≡ true → Called t (d .«allow_oversized») s starts left (d .position) answer.Finished 0 d
-  finished-called w f = record { promised = no-starts starts (omega (arith, k .finished f)); quiet = (refl, w); tied = same-place; closes-full = k .full }
+  finished-called w f = record { promised = no-starts starts (omega (arith, k .finished f)); quiet = (refl, w); tied = same-place; closes-full = k .full; kept = refl }
 
   handed-called : 0 < d .«waiting_count»
       → Called t (d .«allow_oversized») s starts left (d .position) (answer.Event (event.End (getD (d .waiting) 0 noEnd .id) (getD (d .waiting) 0 noEnd .offset))) 0 (handedOut d)
@@ -187,6 +190,7 @@ module _ (t : List Entry) (d : TagDecoder) (s : List ℕ) (starts : List Started
           full = λ f. subst (λ (q : ℕ). allEnded q (drop 1 starts) ≡ true) e (every-drop (λ (m : Started). endedBy (d .position) (m .end)) 1 starts (k .full f));
         };
         closes-full = k .full;
+        kept = refl;
       }
 
   closed-called : (n : ℕ) → n < d .«open_count» → Reading d
@@ -204,6 +208,7 @@ module _ (t : List Entry) (d : TagDecoder) (s : List ℕ) (starts : List Started
           full = λ f. absurd (true≢false (sym f ∙ r .unfinished));
         };
         closes-full = k .full;
+        kept = refl;
       }
 
   ends-inside : (z : EBMLSize) (len : ℕ) → d .«waiting_count» ≡ 0 → InsideSize d len z → Ends (d .«allow_oversized») (endAfter (d .position + len) z) starts
@@ -231,6 +236,7 @@ module _ (t : List Entry) (d : TagDecoder) (s : List ℕ) (starts : List Started
           full = λ g. absurd (true≢false (sym g ∙ f .reading .unfinished));
         };
         closes-full = k .full;
+        kept = refl;
       }
 
   data-called : (x : ℕ) (v : TagValue) (n : ℕ) → d .position + n ≤ 2 ^ 62 → Holds t d s x v n
@@ -246,6 +252,7 @@ module _ (t : List Entry) (d : TagDecoder) (s : List ℕ) (starts : List Started
           full = λ g. absurd (true≢false (sym g ∙ f .reading .unfinished));
         };
         closes-full = k .full;
+        kept = refl;
       }
     where
       within : Ends (d .«allow_oversized») (Number (d .position + n)) starts
@@ -330,7 +337,7 @@ uncut : (p : ℕ) (m : OpenTag) → not (isCut p m) ≡ true → endedBy p (asSt
 unfolding isCut
 uncut p m h = not-cut (m .known) p (endOf m) h
 
-module _ (t : List Entry) (off : Bool) (d : TagDecoder) (s : List ℕ) (starts : List Started) (left : List ℕ) (k : Tied t d starts left (d .position)) (none : d .«waiting_count» ≡ 0) where
+module _ (t : List Entry) (off : Bool) (d : TagDecoder) (s : List ℕ) (starts : List Started) (left : List ℕ) (k : Tied t d starts left (d .position)) (none : d .«waiting_count» ≡ 0) (same : d .«allow_oversized» ≡ off) where
   -- what the end of input answers where no event is left, with the record after it
   Ended : Decoded → Type 0
   Ended r = Called t off s starts left (d .position) (r .answer) (r .taken) (r .state)
@@ -342,6 +349,7 @@ module _ (t : List Entry) (off : Bool) (d : TagDecoder) (s : List ℕ) (starts :
     quiet = tt;
     tied = same-place t d s starts left k;
     closes-full = k .full;
+    kept = same;
   }
 
   module _ (full : allEnded (d .position) starts ≡ true) where
@@ -369,6 +377,7 @@ module _ (t : List Entry) (off : Bool) (d : TagDecoder) (s : List ℕ) (starts :
             full = λ _. subst (λ (q : ℕ). allEnded q starts ≡ true) z full;
           };
           closes-full = λ _. full;
+          kept = same;
         })
         (λ q.
         let n : d .«open_count» ≡ 0 → ⊥ = eqb-false (d .«open_count») 0 q in
@@ -382,6 +391,7 @@ module _ (t : List Entry) (off : Bool) (d : TagDecoder) (s : List ℕ) (starts :
             full = λ _. subst (λ (q : ℕ). allEnded q (drop 1 starts) ≡ true) z (every-drop (λ (m : Started). endedBy (d .position) (m .end)) 1 starts full);
           };
           closes-full = λ _. full;
+          kept = same;
         })
 
   closing-called : allEnded (d .position) starts ≡ true → Ended (closeAll t d)
@@ -408,21 +418,21 @@ module _ (es ps : List ℕ) (shape : goodShape es ps ≡ true) (passed : PassedT
 
   -- no event is left: the record after the decode call is as before, but for the note
   after-events : (r : Decoded) → Tied (tableOf es ps) (r .state) starts (impliedBy ps (decide es ps d s .note) ++ left) (p + r .taken) → (r .taken ≡ 0) × (r .state .«waiting_count» ≡ 0)
-      → CalledAs (ended (tableOf es ps) (r .state) s .answer) (ended (tableOf es ps) (r .state) s .taken) (ended (tableOf es ps) (r .state) s .state)
-  after-events r tied quiet =
+      → r .state .«allow_oversized» ≡ d .«allow_oversized» → CalledAs (ended (tableOf es ps) (r .state) s .answer) (ended (tableOf es ps) (r .state) s .taken) (ended (tableOf es ps) (r .state) s .state)
+  after-events r tied quiet kept =
       let t = tableOf es ps in
       let left' = impliedBy ps (decide es ps d s .note) ++ left in
       let e = ended t (r .state) s in
       let same : r .state .position ≡ p = omega (arith, tied .linked .place, quiet .0) in
       let tied' : Tied t (r .state) starts left' (r .state .position) = subst (Tied t (r .state) starts left') (sym (tied .linked .place)) tied in
       subst (λ (q : ℕ). Called t (d .«allow_oversized») s starts left' q (e .answer) (e .taken) (e .state)) same
-      (ended-called t (d .«allow_oversized») (r .state) s starts left' tied' (quiet .1))
+      (ended-called t (d .«allow_oversized») (r .state) s starts left' tied' (quiet .1) kept)
 
   eof-go : (r : Decoded) → CalledAs (r .answer) (r .taken) (r .state) → (a : Answer) → r .answer ≡ a
       → CalledAs (endedOr (tableOf es ps) s r a .answer) (endedOr (tableOf es ps) s r a .taken) (endedOr (tableOf es ps) s r a .state)
   eof-go r c (answer.Event x) e = c
-  eof-go r c answer.NeedMore e = let c' : CalledAs answer.NeedMore (r .taken) (r .state) = subst (λ (a : Answer). CalledAs a (r .taken) (r .state)) e c in after-events r (c' .tied) (c' .quiet)
-  eof-go r c answer.Finished e = let c' : CalledAs answer.Finished (r .taken) (r .state) = subst (λ (a : Answer). CalledAs a (r .taken) (r .state)) e c in after-events r (c' .tied) (c' .quiet)
+  eof-go r c answer.NeedMore e = let c' : CalledAs answer.NeedMore (r .taken) (r .state) = subst (λ (a : Answer). CalledAs a (r .taken) (r .state)) e c in after-events r (c' .tied) (c' .quiet) (c' .kept)
+  eof-go r c answer.Finished e = let c' : CalledAs answer.Finished (r .taken) (r .state) = subst (λ (a : Answer). CalledAs a (r .taken) (r .state)) e c in after-events r (c' .tied) (c' .quiet) (c' .kept)
   eof-go r c (answer.Refused x) e = c
 
   pub eof-called : CalledAs (decodeEof es ps d s .answer) (decodeEof es ps d s .taken) (decodeEof es ps d s .state)

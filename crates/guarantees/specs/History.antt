@@ -4,7 +4,6 @@ use Prim.Native.Nat.{ℕ, _+_}
 use mathlib.Core.Bool.{Bool, true, false, not, _&&_}
 use mathlib.Core.List.{List, [], _∷_, _++_, map}
 use lib.ListN.{drop}
-use Rattle.table.specs.Lists.{every}
 use Rattle.table.specs.Table.{Entry}
 use Rattle.tag_parse.specs.Header.{readHeader}
 use Rattle.tag_parse.specs.declared.types.EBMLSize.{EBMLSize}
@@ -81,6 +80,16 @@ unfoldable pub startsOpen : List Entry → List Step → List Started
 startsOpen t [] = []
 startsOpen t (s ∷ h) = afterTold t (lent (s .call)) (s .told) (startsOpen t h)
 
+-- the same with every end as it was declared, whatever a recovery passed over
+abbrev pub afterDeclared : List Entry → List ℕ → Told → List Started → List Started
+afterDeclared t s (answered a n) l = afterAnswer t s a l
+afterDeclared t s (searched a n) l = l
+afterDeclared t s silent l = l
+
+unfoldable pub startsDeclared : List Entry → List Step → List Started
+startsDeclared t [] = []
+startsDeclared t (s ∷ h) = afterDeclared t (lent (s .call)) (s .told) (startsDeclared t h)
+
 -- ---- the implied parents that have not had their End, the innermost first
 
 -- an End that comes while no Start is open takes the first of them away
@@ -121,16 +130,23 @@ position (s ∷ h) = position h + takenBy (s .told)
 
 -- ---- what was never done
 
--- no call switched the child-size test off
-abbrev pub keepsChildTest : Call → Bool
-keepsChildTest (decoding s) = true
-keepsChildTest (ending s) = true
-keepsChildTest (recovering s) = true
-keepsChildTest (allow ids hierarchy oversized) = not oversized
-keepsChildTest (limit n) = true
+-- whether the child-size test is on after a call, where it was on or not before it
+abbrev pub testAfter : Call → Bool → Bool
+testAfter (decoding s) on = on
+testAfter (ending s) on = on
+testAfter (recovering s) on = on
+testAfter (allow ids hierarchy oversized) on = not oversized
+testAfter (limit n) on = on
 
-abbrev pub childTestNeverOff : List Call → Bool
-childTestNeverOff cs = every keepsChildTest cs
+-- it is on at first
+unfoldable pub childTestOn : List Call → Bool
+childTestOn [] = true
+childTestOn (c ∷ cs) = testAfter c (childTestOn cs)
+
+-- it was on at every call
+unfoldable pub childTestNeverOff : List Call → Bool
+childTestNeverOff [] = true
+childTestNeverOff (c ∷ cs) = testAfter c true && childTestNeverOff cs
 
 -- no call was a recovery
 abbrev pub isNoRecovery : Call → Bool
@@ -140,5 +156,6 @@ isNoRecovery (recovering s) = false
 isNoRecovery (allow ids hierarchy oversized) = true
 isNoRecovery (limit n) = true
 
-abbrev pub neverRecovered : List Call → Bool
-neverRecovered cs = every isNoRecovery cs
+unfoldable pub neverRecovered : List Call → Bool
+neverRecovered [] = true
+neverRecovered (c ∷ cs) = isNoRecovery c && neverRecovered cs

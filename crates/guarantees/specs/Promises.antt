@@ -2,7 +2,7 @@
 use Prim.Native.Nat.{ℕ, _+_, _≤_, _<_}
 use mathlib.Core.Path.{_≡_}
 use mathlib.Core.Bool.{Bool, true, false}
-use mathlib.Core.List.{List, [], _∷_, List·Memᴰ}
+use mathlib.Core.List.{List, [], _∷_, _++_, List·Memᴰ}
 use lib.ListN.{length}
 use Rattle.table.specs.Check.{checkTable}
 use Rattle.table.specs.Table.{Entry, tableOf, dataTypeOf}
@@ -20,7 +20,7 @@ use Rattle.decoder_state.specs.declared.types.Given.{Given}
 use Rattle.decoder_state.specs.declared.types.Given.the-variants.{Nothing, Number}
 use Rattle.decoder_state.specs.declared.types.Search.{Search}
 use Rattle.decoder_state.specs.declared.types.Search.the-variants as search
-use Rattle.guarantees.specs.Calls.{Call, lent, Told, answered, searched, silent, toldBy, recordAfter, history, Lent}
+use Rattle.guarantees.specs.Calls.{Call, lent, Told, answered, searched, silent, toldBy, impliedBy, noteOf, recordAfter, history, Lent}
 use Rattle.guarantees.specs.History.{Started, declaredEnd, startsOpen, parentsLeft, position}
 
 -- ---- what stands in an answer
@@ -69,9 +69,24 @@ pub record Runs (es ps : List ℕ) (cs : List Call) : Type 0 where
   -- what is lent are octets
   pub octets : Lent cs
 
--- the last call answers this event, and takes so many bytes
-abbrev pub Tells : List ℕ → List ℕ → Call → List Call → Answer → Type 0
-Tells es ps c cs a = (n : ℕ) × (toldBy es ps (recordAfter es ps cs) c ≡ answered a n)
+-- what the call c answers after the calls cs
+abbrev pub lastTold : List ℕ → List ℕ → List Call → Call → Told
+lastTold es ps cs c = toldBy es ps (recordAfter es ps cs) c
+
+-- it is an answer of decode or of the end of input, with some count of bytes taken
+abbrev pub Answers : List ℕ → List ℕ → List Call → Call → Answer → Type 0
+Answers es ps cs c a = (n : ℕ) × (lastTold es ps cs c ≡ answered a n)
+
+-- the Starts that are open where the call c comes, and the implied parents that are left, with those that c itself implies before its event
+abbrev pub openAt : List ℕ → List ℕ → List Call → List Started
+openAt es ps cs = startsOpen (tableOf es ps) (history es ps cs)
+
+abbrev pub leftAt : List ℕ → List ℕ → List Call → Call → List ℕ
+leftAt es ps cs c = impliedBy ps (noteOf es ps (recordAfter es ps cs) c) ++ parentsLeft (tableOf es ps) (history es ps cs)
+
+-- the position there
+abbrev pub placeAt : List ℕ → List ℕ → List Call → ℕ
+placeAt es ps cs = position (history es ps cs)
 
 -- ---- 3
 

@@ -1,0 +1,98 @@
+-- The one induction over calls: from a fresh decoder, whatever the calls are, the record is tied to what a caller can tell, and the child-size test is
+-- on where the calls say so. Assumes nothing.
+use Prim.Native.Nat.{ℕ, _+_, _^_, _≤_, _<_}
+use mathlib.Core.Path.{_≡_, refl, sym, ap, _∙_, subst}
+use mathlib.Core.Bool.{Bool, true, false, cond, not, _&&_, true≢false, false≢true}
+use mathlib.Core.List.{List, [], _∷_, _++_, map}
+use native.Mathlib.Omega.{arith}
+use lib.ListN.{length}
+use Rattle.tools.specs.Bytes.{Octets}
+use Rattle.table.specs.Shape.{goodShape}
+use Rattle.table.specs.Check.{checkTable}
+use Rattle.table.specs.Table.{Entry, tableOf}
+use Rattle.table.specs.declared.types.Checked.{Checked}
+use Rattle.table.specs.declared.types.Checked.the-variants.{BadShape, Passed}
+use Rattle.table.proofs.Passed.{PassedTable, passed-gives, answered as shape-of}
+use Rattle.tag_parse.specs.Header.{readHeader}
+use Rattle.tag_parse.specs.declared.types.ReadHeader.{ReadHeader}
+use Rattle.tag_parse.specs.declared.types.ReadHeader.the-variants as header
+use Rattle.decoder_state.specs.State.{withOpen, withNotes, grown}
+use Rattle.decoder_state.specs.OneCall.{refused12, step6, step7, noted, validHeader, passes, forward, found, atPlace, scan, scanOr, tryRecover}
+use Rattle.decoder_state.specs.declared.types.Check.{Check}
+use Rattle.decoder_state.specs.declared.types.Check.the-variants.{Pass, Fail}
+use Rattle.decoder_state.specs.declared.types.Given.{Given}
+use Rattle.decoder_state.specs.declared.types.Given.the-variants.{Nothing, Number}
+use Rattle.decoder_state.specs.declared.types.Note.the-variants.{NoNote}
+use Rattle.decoder_state.specs.declared.types.Recovered.{Recovered}
+use Rattle.decoder_state.specs.declared.types.TagDecoder.{TagDecoder}
+use Rattle.decoder_decide.proofs.Judged.{pick}
+use Rattle.tag_decoder.specs.Settings.{withSettings, allowing, limitedTo}
+use Rattle.guarantees.specs.Calls.{Call, decoding, ending, recovering, allow, limit, lent, Told, answered, searched, silent, toldBy, next, impliedBy, noteOf, recordAfter, history, Lent}
+use Rattle.guarantees.specs.History.{Started, afterTold, startsOpen, leftBy, parentsLeft, takenBy, position, testAfter, childTestOn}
+use Rattle.guarantees.specs.Promises.{Runs, openAt, placeAt}
+use Rattle.guarantees.proofs.Tied.{Linked, Tied, fresh-tied}
+use Rattle.guarantees.proofs.Moves.{settings-linked}
+use Rattle.guarantees.proofs.Steps.{AnswerFacts, Called, decode-called, eof-called, noted-oversized}
+use Rattle.guarantees.proofs.Recovery.{SearchFacts, Searched, recover-searched}
+
+-- ---- what the check gives
+
+not-bad : (c : Checked) → c ≡ Passed → c ≡ BadShape → ⊥
+not-bad c e f = let z : _≡_ {A = ℕ} 0 1 = cc in omega arith
+
+pub good-shape : (es ps : List ℕ) → checkTable es ps ≡ Passed → goodShape es ps ≡ true
+good-shape es ps e = shape-of es ps (not-bad (checkTable es ps) e)
+
+-- ---- one call
+
+abbrev pub ToldFacts : List Entry → Bool → List ℕ → List Started → List ℕ → ℕ → Told → Type 0
+ToldFacts t off s starts left p (answered a n) = AnswerFacts t off s starts left p a
+ToldFacts t off s starts left p (searched a n) = SearchFacts a
+ToldFacts t off s starts left p silent = Unit {0}
+
+-- the promises of what the call c tells, and the invariant after it
+pub record After (es ps : List ℕ) (d : TagDecoder) (starts : List Started) (left : List ℕ) (p : ℕ) (c : Call) : Type 0 where
+  pub promised : ToldFacts (tableOf es ps) (d .«allow_oversized») (lent c) starts (impliedBy ps (noteOf es ps d c) ++ left) p (toldBy es ps d c)
+  pub tied :
+      Tied (tableOf es ps) (next es ps d c) (afterTold (tableOf es ps) (lent c) (toldBy es ps d c) starts) (leftBy (toldBy es ps d c) starts (impliedBy ps (noteOf es ps d c) ++ left)) (p + takenBy (toldBy es ps d c))
+
+module _ (es ps : List ℕ) (checked : checkTable es ps ≡ Passed) (d : TagDecoder) (starts : List Started) (left : List ℕ) (p : ℕ)
+    (k : Tied (tableOf es ps) d starts left p) where
+  set-tied : (ids hierarchy oversized given : Bool) (max : ℕ) → Tied (tableOf es ps) (withSettings d ids hierarchy oversized given max) starts left (p + 0)
+  unfolding withSettings
+  set-tied ids hierarchy oversized given max =
+      let z : p ≡ p + 0 = omega arith in
+      subst (Tied (tableOf es ps) (withSettings d ids hierarchy oversized given max) starts left) z
+      (record { linked = settings-linked (tableOf es ps) d starts left p (k .linked) ids hierarchy oversized given max; finished = k .finished; full = k .full })
+
+  limited : (n : Given) → Tied (tableOf es ps) (limitedTo d n) starts left (p + 0)
+  limited Nothing = set-tied (d .«allow_ids») (d .«allow_hierarchy») (d .«allow_oversized») false 0
+  limited (Number n) = set-tied (d .«allow_ids») (d .«allow_hierarchy») (d .«allow_oversized») true n
+
+  pub after : (c : Call) → Octets (lent c) → After es ps d starts left p c
+  unfolding impliedBy
+  after (decoding s) byte =
+      let c = decode-called es ps (good-shape es ps checked) (passed-gives es ps checked) d s byte starts left p k in
+      record { promised = c .promised; tied = c .tied }
+  after (ending s) byte =
+      let c = eof-called es ps (good-shape es ps checked) (passed-gives es ps checked) d s byte starts left p k in
+      record { promised = c .promised; tied = c .tied }
+  after (recovering s) byte =
+      let c = recover-searched es ps (good-shape es ps checked) (passed-gives es ps checked) starts d s left p k in
+      record { promised = c .promised; tied = c .tied }
+  after (allow ids hierarchy oversized) byte = record { promised = tt; tied = set-tied ids hierarchy oversized (d .«max_given») (d .«max_size») }
+  after (limit n) byte = record { promised = tt; tied = limited n }
+
+-- ---- any calls
+
+pub tied-after : (es ps : List ℕ) → checkTable es ps ≡ Passed → (cs : List Call) → Lent cs
+    → Tied (tableOf es ps) (recordAfter es ps cs) (startsOpen (tableOf es ps) (history es ps cs)) (parentsLeft (tableOf es ps) (history es ps cs)) (position (history es ps cs))
+unfolding recordAfter history startsOpen parentsLeft position Lent
+tied-after es ps checked [] l = fresh-tied (tableOf es ps)
+tied-after es ps checked (c ∷ cs) l = after es ps checked _ _ _ _ (tied-after es ps checked cs (l .1)) c (l .0) .tied
+
+-- so the promises hold of the last call
+pub promised-after : (es ps : List ℕ) (cs : List Call) (c : Call) → Runs es ps (c ∷ cs)
+    → After es ps (recordAfter es ps cs) (startsOpen (tableOf es ps) (history es ps cs)) (parentsLeft (tableOf es ps) (history es ps cs)) (position (history es ps cs)) c
+unfolding Lent
+promised-after es ps cs c r = after es ps (r .checked) _ _ _ _ (tied-after es ps (r .checked) cs (r .octets .1)) c (r .octets .0)
