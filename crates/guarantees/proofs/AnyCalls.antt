@@ -32,8 +32,8 @@ use Rattle.guarantees.specs.History.{Started, afterTold, startsOpen, lef
 use Rattle.guarantees.specs.Promises.{Runs, openAt, placeAt}
 use Rattle.guarantees.proofs.Tied.{Linked, Tied, fresh-tied}
 use Rattle.guarantees.proofs.Moves.{settings-linked}
-use Rattle.guarantees.proofs.Steps.{AnswerFacts, Called, decode-called, eof-called, noted-oversized}
-use Rattle.guarantees.proofs.Recovery.{SearchFacts, Searched, recover-searched}
+use Rattle.guarantees.proofs.Steps.{AnswerFacts, Measured, Called, decode-called, eof-called, noted-oversized}
+use Rattle.guarantees.proofs.Recovery.{SearchFacts, Searched, recover-searched, recover-keeps}
 
 -- ---- what the check gives
 
@@ -50,11 +50,19 @@ ToldFacts t off s starts left p (answered a n) = AnswerFacts t off s starts left
 ToldFacts t off s starts left p (searched a n) = SearchFacts a
 ToldFacts t off s starts left p silent = Unit {0}
 
+abbrev pub MeasuredTold : List Entry → List ℕ → ℕ → Told → Type 0
+MeasuredTold t s p (answered a n) = Measured t s p a n
+MeasuredTold t s p (searched a n) = Unit {0}
+MeasuredTold t s p silent = Unit {0}
+
 -- the promises of what the call c tells, and the invariant after it
 pub record After (es ps : List ℕ) (d : TagDecoder) (starts : List Started) (left : List ℕ) (p : ℕ) (c : Call) : Type 0 where
   pub promised : ToldFacts (tableOf es ps) (d .«allow_oversized») (lent c) starts (impliedBy ps (noteOf es ps d c) ++ left) p (toldBy es ps d c)
   pub tied :
       Tied (tableOf es ps) (next es ps d c) (afterTold (tableOf es ps) (lent c) (toldBy es ps d c) starts) (leftBy (toldBy es ps d c) starts (impliedBy ps (noteOf es ps d c) ++ left)) (p + takenBy (toldBy es ps d c))
+  pub measured : MeasuredTold (tableOf es ps) (lent c) p (toldBy es ps d c)
+  -- the child-size test is on after it as the call says
+  pub test : not (next es ps d c .«allow_oversized») ≡ testAfter c (not (d .«allow_oversized»))
 
 module _ (es ps : List ℕ) (checked : checkTable es ps ≡ Passed) (d : TagDecoder) (starts : List Started) (left : List ℕ) (p : ℕ)
     (k : Tied (tableOf es ps) d starts left p) where
@@ -69,19 +77,24 @@ module _ (es ps : List ℕ) (checked : checkTable es ps ≡ Passed) (d : TagDeco
   limited Nothing = set-tied (d .«allow_ids») (d .«allow_hierarchy») (d .«allow_oversized») false 0
   limited (Number n) = set-tied (d .«allow_ids») (d .«allow_hierarchy») (d .«allow_oversized») true n
 
+  same-test : (n : Given) → not (limitedTo d n .«allow_oversized») ≡ not (d .«allow_oversized»)
+  unfolding withSettings
+  same-test Nothing = refl
+  same-test (Number n) = refl
+
   pub after : (c : Call) → Octets (lent c) → After es ps d starts left p c
-  unfolding impliedBy
+  unfolding impliedBy withSettings
   after (decoding s) byte =
       let c = decode-called es ps (good-shape es ps checked) (passed-gives es ps checked) d s byte starts left p k in
-      record { promised = c .promised; tied = c .tied }
+      record { promised = c .promised; tied = c .tied; measured = c .measured; test = ap not (c .kept) }
   after (ending s) byte =
       let c = eof-called es ps (good-shape es ps checked) (passed-gives es ps checked) d s byte starts left p k in
-      record { promised = c .promised; tied = c .tied }
+      record { promised = c .promised; tied = c .tied; measured = c .measured; test = ap not (c .kept) }
   after (recovering s) byte =
       let c = recover-searched es ps (good-shape es ps checked) (passed-gives es ps checked) starts d s left p k in
-      record { promised = c .promised; tied = c .tied }
-  after (allow ids hierarchy oversized) byte = record { promised = tt; tied = set-tied ids hierarchy oversized (d .«max_given») (d .«max_size») }
-  after (limit n) byte = record { promised = tt; tied = limited n }
+      record { promised = c .promised; tied = c .tied; measured = tt; test = ap not (recover-keeps es ps d s) }
+  after (allow ids hierarchy oversized) byte = record { promised = tt; tied = set-tied ids hierarchy oversized (d .«max_given») (d .«max_size»); measured = tt; test = refl }
+  after (limit n) byte = record { promised = tt; tied = limited n; measured = tt; test = same-test n }
 
 -- ---- any calls
 
@@ -96,3 +109,11 @@ pub promised-after : (es ps : List ℕ) (cs : List Call) (c : Call) → Runs es 
     → After es ps (recordAfter es ps cs) (startsOpen (tableOf es ps) (history es ps cs)) (parentsLeft (tableOf es ps) (history es ps cs)) (position (history es ps cs)) c
 unfolding Lent
 promised-after es ps cs c r = after es ps (r .checked) _ _ _ _ (tied-after es ps (r .checked) cs (r .octets .1)) c (r .octets .0)
+
+-- ---- the child-size test
+
+pub test-after : (es ps : List ℕ) → checkTable es ps ≡ Passed → (cs : List Call) → Lent cs → not (recordAfter es ps cs .«allow_oversized») ≡ childTestOn cs
+unfolding recordAfter childTestOn Lent
+test-after es ps checked [] l = refl
+test-after es ps checked (c ∷ cs) l =
+    after es ps checked _ _ _ _ (tied-after es ps checked cs (l .1)) c (l .0) .test ∙ ap (testAfter c) (test-after es ps checked cs (l .1))

@@ -5,3 +5,4 @@ pub mod Moves
 pub mod Steps
 pub mod Recovery
 pub mod AnyCalls
+pub mod Guarantees

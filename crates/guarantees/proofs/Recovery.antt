@@ -41,6 +41,7 @@ use Rattle.guarantees.specs.History.{Started, laterEnd, later, afterSear
 use Rattle.guarantees.proofs.Decided.{NoteFacts, step7-facts}
 use Rattle.guarantees.proofs.Tied.{stack, endedBy, allEnded, Linked, Tied}
 use Rattle.guarantees.proofs.Moves.{moved-linked, settled-linked, grown-linked}
+use Rattle.guarantees.proofs.Steps.{noted-oversized}
 
 -- ---- ends and places
 
@@ -253,3 +254,33 @@ module _ (es ps : List ℕ) (shape : goodShape es ps ≡ true) (passed : PassedT
           scan-searched lent d left
           (record { linked = here .linked; finished = here .finished; full = here .full; behind = omega arith; good = here .linked .good .masters; near = first .near })
       go (Fail x) e f = record { promised = f; tied = unfold impliedBy in still }
+
+-- ---- a recovery leaves the settings
+
+module _ (ps : List ℕ) (t : List Entry) (d : TagDecoder) where
+  -- the child-size test is off in r where it is off in e
+  abbrev SameTest : TagDecoder → Recovered → Type 0
+  SameTest e r = r .state .«allow_oversized» ≡ e .«allow_oversized»
+
+  place-keeps : (e : TagDecoder) (r : ReadHeader) (on : TagDecoder → Recovered) → ((x : TagDecoder) → SameTest x (on x)) → SameTest e (atPlace ps t d e r on)
+  unfolding atPlace withNotes grown withOpen
+  place-keeps e header.NeedMore on rest = refl
+  place-keeps e (header.Refused x) on rest = rest (forward e)
+  place-keeps e (header.Header h) on rest =
+      let e' = noted ps e (step7 ps e h) in
+      pick (SameTest e) (step6 e h) _ _
+      (λ f. pick (SameTest e) (passes (validHeader t e' h)) (found d e') (on (forward e')) (λ g. noted-oversized ps e (step7 ps e h)) (λ g. rest (forward e') ∙ noted-oversized ps e (step7 ps e h)))
+      (λ f. rest (forward e))
+
+  scan-keeps : (s : List ℕ) (e : TagDecoder) → SameTest e (scan ps t d e s)
+  unfolding scan
+  scan-keeps [] e = refl
+  scan-keeps (b ∷ s) e = place-keeps e (readHeader t (b ∷ s)) (λ next. scan ps t d next s) (λ x. scan-keeps s x)
+
+  scan-or-keeps : (s : List ℕ) (c : Check) → SameTest d (scanOr ps t d s c)
+  scan-or-keeps s Pass = scan-keeps s d
+  scan-or-keeps s (Fail e) = refl
+
+pub recover-keeps : (es ps : List ℕ) (d : TagDecoder) (s : List ℕ) → tryRecover es ps d s .state .«allow_oversized» ≡ d .«allow_oversized»
+unfolding tryRecover
+recover-keeps es ps d s = scan-or-keeps ps (tableOf es ps) d s (refused12 es ps d (length s))

@@ -92,10 +92,23 @@ Quiet answer.NeedMore n d = (n ≡ 0) × (d .«waiting_count» ≡ 0)
 Quiet answer.Finished n d = (n ≡ 0) × (d .«waiting_count» ≡ 0)
 Quiet (answer.Refused r) n d = Unit {0}
 
+-- a Data takes its element whole
+abbrev pub MeasuredEvent : List Entry → List ℕ → ℕ → Event → ℕ → Type 0
+MeasuredEvent t s p (event.Start x o) n = Unit {0}
+MeasuredEvent t s p (event.End x o) n = Unit {0}
+MeasuredEvent t s p (event.Data x o v) n = declaredEnd t p s ≡ Number (p + n)
+
+abbrev pub Measured : List Entry → List ℕ → ℕ → Answer → ℕ → Type 0
+Measured t s p (answer.Event e) n = MeasuredEvent t s p e n
+Measured t s p answer.NeedMore n = Unit {0}
+Measured t s p answer.Finished n = Unit {0}
+Measured t s p (answer.Refused r) n = Unit {0}
+
 -- a call answers a, takes n bytes and leaves the record e
 pub record Called (t : List Entry) (off : Bool) (s : List ℕ) (starts : List Started) (left : List ℕ) (p : ℕ) (a : Answer) (n : ℕ) (e : TagDecoder) : Type 0 where
   pub promised : AnswerFacts t off s starts left p a
   pub quiet : Quiet a n e
+  pub measured : Measured t s p a n
   pub tied : Tied t e (afterAnswer t s a starts) (leftByAnswer a starts left) (p + n)
   -- the input is not ended while a Start of known size that is open is not full
   pub closes-full : e .finished ≡ true → allEnded p starts ≡ true
@@ -164,16 +177,17 @@ module _ (t : List Entry) (d : TagDecoder) (s : List ℕ) (starts : List Started
       at-19 = λ n. let f = m .at-19 n in omega (arith, stack-length t d starts left (d .position) (k .linked) (f .0), f .1, k .linked .good .open-count);
     };
     quiet = tt;
+    measured = tt;
     tied = same-place;
     closes-full = k .full;
     kept = refl;
   }
 
   more-called : Reading d → Called t (d .«allow_oversized») s starts left (d .position) answer.NeedMore 0 d
-  more-called r = record { promised = tt; quiet = (refl, r .none-waiting); tied = same-place; closes-full = k .full; kept = refl }
+  more-called r = record { promised = tt; quiet = (refl, r .none-waiting); measured = tt; tied = same-place; closes-full = k .full; kept = refl }
 
   finished-called : d .«waiting_count» ≡ 0 → d .finished ≡ true → Called t (d .«allow_oversized») s starts left (d .position) answer.Finished 0 d
-  finished-called w f = record { promised = no-starts starts (omega (arith, k .finished f)); quiet = (refl, w); tied = same-place; closes-full = k .full; kept = refl }
+  finished-called w f = record { promised = no-starts starts (omega (arith, k .finished f)); quiet = (refl, w); measured = tt; tied = same-place; closes-full = k .full; kept = refl }
 
   handed-called : 0 < d .«waiting_count»
       → Called t (d .«allow_oversized») s starts left (d .position) (answer.Event (event.End (getD (d .waiting) 0 noEnd .id) (getD (d .waiting) 0 noEnd .offset))) 0 (handedOut d)
@@ -184,6 +198,7 @@ module _ (t : List Entry) (d : TagDecoder) (s : List ℕ) (starts : List Started
       record {
         promised = (master-is _ (o .master), o .matches);
         quiet = tt;
+        measured = tt;
         tied = record {
           linked = subst (Linked t (handedOut d) (drop 1 starts) (leftByEnd starts left)) e (o .linked);
           finished = λ f. omega (arith, k .finished f, length-drop 1 starts);
@@ -202,6 +217,7 @@ module _ (t : List Entry) (d : TagDecoder) (s : List ℕ) (starts : List Started
       record {
         promised = (master-is _ (o .master), o .matches);
         quiet = tt;
+        measured = tt;
         tied = record {
           linked = subst (Linked t (closedTo d n) (drop 1 starts) (leftByEnd starts left)) e (o .linked);
           finished = λ f. absurd (true≢false (sym f ∙ r .unfinished));
@@ -229,6 +245,7 @@ module _ (t : List Entry) (d : TagDecoder) (s : List ℕ) (starts : List Started
       record {
         promised = (f .master, record { offset = refl; inside = rw (f .end) (ends-inside z len (f .reading .none-waiting) (f .inside)) });
         quiet = tt;
+        measured = tt;
         tied = record {
           linked = subst (λ (o : Started). Linked t (opened e m) (o ∷ starts) left (d .position + len)) is
               (opened-linked t e starts left (d .position + len) moved m (f .reading .none-waiting) (f .settled) few (open-good x (d .position) len z (f .small)) master);
@@ -246,6 +263,7 @@ module _ (t : List Entry) (d : TagDecoder) (s : List ℕ) (starts : List Started
       record {
         promised = (f .kind, record { offset = refl; inside = rw (f .end) within });
         quiet = tt;
+        measured = f .end;
         tied = record {
           linked = moved-linked t d starts left (d .position) (k .linked) (d .position + n) (d .finished) (omega arith) near;
           finished = λ g. absurd (true≢false (sym g ∙ f .reading .unfinished));
@@ -347,6 +365,7 @@ module _ (t : List Entry) (off : Bool) (d : TagDecoder) (s : List ℕ) (starts :
   cut-called e q n = record {
     promised = record { not-10 = λ z. omega arith; not-11 = λ z. omega arith; not-24 = λ z. omega arith; at-19 = λ z. absurd (omega arith) };
     quiet = tt;
+    measured = tt;
     tied = same-place t d s starts left k;
     closes-full = k .full;
     kept = same;
@@ -371,6 +390,7 @@ module _ (t : List Entry) (off : Bool) (d : TagDecoder) (s : List ℕ) (starts :
         record {
           promised = empty;
           quiet = (refl, none);
+          measured = tt;
           tied = record {
             linked = subst (Linked t e starts left) z at-end;
             finished = λ _. omega (arith, few-starts);
@@ -385,6 +405,7 @@ module _ (t : List Entry) (off : Bool) (d : TagDecoder) (s : List ℕ) (starts :
         record {
           promised = (master-is _ (o .master), o .matches);
           quiet = tt;
+          measured = tt;
           tied = record {
             linked = subst (Linked t (closedTo e 0) (drop 1 starts) (leftByEnd starts left)) z (o .linked);
             finished = λ _. omega (arith, few-starts, length-drop 1 starts);

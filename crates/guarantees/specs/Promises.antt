@@ -61,6 +61,12 @@ eventId (event.Start x o) = x
 eventId (event.End x o) = x
 eventId (event.Data x o v) = x
 
+-- the offset of an element: a Start or a Data
+abbrev pub elementOffset : Event → Given
+elementOffset (event.Start x o) = Number o
+elementOffset (event.End x o) = Nothing
+elementOffset (event.Data x o v) = Number o
+
 -- ---- the table and the calls that the promises speak of
 
 pub record Runs (es ps : List ℕ) (cs : List Call) : Type 0 where
