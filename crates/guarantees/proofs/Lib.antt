@@ -6,3 +6,4 @@ pub mod Steps
 pub mod Recovery
 pub mod AnyCalls
 pub mod Guarantees
+pub mod Cut

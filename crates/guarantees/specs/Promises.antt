@@ -119,3 +119,12 @@ pub record NotFull (starts : List Started) (p : ℕ) : Type 0 where
   pub end : ℕ
   pub known : master .end ≡ Number end
   pub beyond : p < end
+
+-- an End, or refusal 23
+abbrev pub EndOr23 : Answer → Type 0
+EndOr23 (answer.Event (event.Start x o)) = ⊥
+EndOr23 (answer.Event (event.End x o)) = Unit {0}
+EndOr23 (answer.Event (event.Data x o v)) = ⊥
+EndOr23 answer.NeedMore = ⊥
+EndOr23 answer.Finished = ⊥
+EndOr23 (answer.Refused r) = errorNumber (r .error) ≡ 23
