@@ -7,3 +7,4 @@ pub mod Recovery
 pub mod AnyCalls
 pub mod Guarantees
 pub mod Cut
+pub mod Needed
