@@ -40,7 +40,8 @@ use Rattle.guarantees.specs.Calls.{Call, ending, lent, answered, recordA
 use Rattle.guarantees.specs.History.{Started, startsOpen, parentsLeft, position}
 use Rattle.guarantees.specs.Promises.{Runs, Answers, openAt, placeAt, NotFull, EndOr23}
 use Rattle.guarantees.proofs.Decided.{allMasters, AllFacts, noted-masters, decide-facts}
-use Rattle.guarantees.proofs.Tied.{endedBy, allEnded, Linked, Tied}
+use Rattle.guarantees.proofs.Ends.{endedBy}
+use Rattle.guarantees.proofs.Tied.{allEnded, Linked, Tied}
 use Rattle.guarantees.proofs.Steps.{Called, decode-called, eof-called}
 use Rattle.guarantees.proofs.AnyCalls.{good-shape, tied-after}
 use Rattle.guarantees.proofs.Guarantees.{finish-closes}

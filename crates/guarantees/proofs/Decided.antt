@@ -7,7 +7,7 @@ use mathlib.Core.List.{List, [], _∷_, map, List·Memᴰ, List·Memᴰ·head, L
 use native.Mathlib.Omega.{arith}
 use borrow.Author.Tests.{ltb-true, ltb-false, leb-true, le-leb, eqb-true}
 use lib.Dec.{leb, ltb, eqb}
-use lib.ListN.{length, take, drop}
+use lib.ListN.{length, take, drop, length-map}
 use Rattle.tools.specs.Bytes.{Octets}
 use Rattle.tools.specs.Integer.{arrToU64, arrToI64}
 use Rattle.tools.specs.Float.{arrToF64}
@@ -63,10 +63,11 @@ use Rattle.decoder_state.specs.declared.types.Note.{Note}
 use Rattle.decoder_state.specs.declared.types.Note.the-variants.{NoNote, Settle}
 use Rattle.decoder_state.specs.declared.types.TagDecoder.{TagDecoder}
 use Rattle.decoder_state.proofs.Good.{GoodState, is-good-state, every-drop, and-both}
-use Rattle.decoder_state.proofs.Kept.{settled-opens, settled-settled}
+use Rattle.decoder_state.proofs.Kept.{settled-opens, settled-count}
 use Rattle.decoder_decide.proofs.Judged.{pick, cond-yes, cond-no}
 use Rattle.guarantees.specs.History.{declaredEnd, headerEnd, endAfter}
 use Rattle.guarantees.specs.Promises.{valueKind}
+use Rattle.guarantees.proofs.Ends.{FullBatch, step3-batch, step10-batch}
 
 -- ---- a Master of the table
 
@@ -177,13 +178,17 @@ pub record Holds (t : List Entry) (d : TagDecoder) (s : List ℕ) (x : ℕ) (v :
   pub end : declaredEnd t (d .position) s ≡ Number (d .position + n)
   pub inside : Inside d (d .position + n)
 
+pub record Closes (d : TagDecoder) (n : ℕ) : Type 0 where
+  pub reading : Reading d
+  pub batch : FullBatch d n
+
 -- d has the note
 abbrev pub Facts : List Entry → TagDecoder → List ℕ → Action → Type 0
 Facts t d s (act.Refuse e) = Mild d e
 Facts t d s act.NeedMore = Reading d
 Facts t d s act.Finish = (d .«waiting_count» ≡ 0) × (d .finished ≡ true)
 Facts t d s act.HandOut = Unit {0}
-Facts t d s (act.Close k) = Reading d
+Facts t d s (act.Close k) = Closes d k
 Facts t d s (act.Start x z len) = Starts t d s x z len
 Facts t d s (act.Data x v n) = Holds t d s x v n
 
@@ -219,11 +224,11 @@ valid t d h =
 
 -- ---- 3 and 10: no table fault
 
-module _ (t : List Entry) (d : TagDecoder) (s : List ℕ) (reading : Reading d) (masters : allMasters t (opens d) ≡ true) where
-  closing-facts : (k : ℕ) → Facts t d s (closing t d k)
+module _ (t : List Entry) (d : TagDecoder) (s : List ℕ) (reading : Reading d) (masters : allMasters t (opens d) ≡ true) (count : length (opens d) ≡ d .«open_count») where
+  closing-facts : (k : ℕ) → FullBatch d k → Facts t d s (closing t d k)
   unfolding closing
-  closing-facts k =
-      pick (Facts t d s) (allMasters t (drop k (opens d))) (act.Close k) (act.Refuse error.NotAMaster) (λ e. reading)
+  closing-facts k batch =
+      pick (Facts t d s) (allMasters t (drop k (opens d))) (act.Close k) (act.Refuse error.NotAMaster) (λ e. record { reading = reading; batch = batch })
       (λ e. absurd (true≢false (sym (every-drop (λ m. isMaster (dataTypeOf t (m .id))) k (opens d) masters) ∙ e)))
 
   -- ---- 10 and 11, of a header that was read
@@ -280,16 +285,16 @@ module _ (t : List Entry) (d : TagDecoder) (s : List ℕ) (reading : Reading d) 
       steps10-facts : Facts t d s (steps10-11 t d h s)
       unfolding steps10-11
       steps10-facts =
-          pick (Facts t d s) (ltb (step10 t d (h .id)) (d .«open_count»)) _ _ (λ f. closing-facts (step10 t d (h .id))) (λ f. step11-facts)
+          pick (Facts t d s) (ltb (step10 t d (h .id)) (d .«open_count»)) _ _ (λ f. closing-facts (step10 t d (h .id)) (step10-batch t d (h .id) count (ltb-true _ _ f))) (λ f. step11-facts)
 
 -- 8 to 11; d has the note
-steps8-facts : (t : List Entry) (d : TagDecoder) (s : List ℕ) → Reading d → allMasters t (opens d) ≡ true → Octets s → (h : TagHeader) → readHeader t s ≡ header.Header h
+steps8-facts : (t : List Entry) (d : TagDecoder) (s : List ℕ) → Reading d → allMasters t (opens d) ≡ true → length (opens d) ≡ d .«open_count» → Octets s → (h : TagHeader) → readHeader t s ≡ header.Header h
     → (isMaster (h .kind) ≡ true → d .settled ≡ true) → Facts t d s (steps8-11 t d h s)
 unfolding steps8-11
-steps8-facts t d s reading masters byte h is settled = go (validHeader t d h) (valid t d h)
+steps8-facts t d s reading masters count byte h is settled = go (validHeader t d h) (valid t d h)
   where
     go : (c : Check) → Valid d h c → Facts t d s (unless c (steps10-11 t d h s))
-    go Pass v = steps10-facts t d s reading masters byte h is v settled
+    go Pass v = steps10-facts t d s reading masters count byte h is v settled
     go (Fail e) v = v
 
 -- ---- 7: the note
@@ -365,6 +370,11 @@ unfolding noted
 noted-masters ps t d NoNote f m = m
 noted-masters ps t d (Settle path) f m = rw (settled-opens d (within (partsOf ps) path)) (f .masters)
 
+noted-count : (ps : List ℕ) (d : TagDecoder) (n : Note) → length (opens d) ≡ d .«open_count» → length (opens (noted ps d n)) ≡ noted ps d n .«open_count»
+unfolding noted
+noted-count ps d NoNote e = e
+noted-count ps d (Settle path) e = ap length (settled-opens d (within (partsOf ps) path)) ∙ length-map (within (partsOf ps) path) implied ∙ sym (settled-count d (within (partsOf ps) path))
+
 -- ---- the decision
 
 pub record AllFacts (ps : List ℕ) (t : List Entry) (d : TagDecoder) (s : List ℕ) (a : Decision) : Type 0 where
@@ -393,7 +403,7 @@ second-mild d n = pick (Failing d) (d .finished && ltb 0 n) (Fail error.AfterFin
 -- ---- 2 to 11
 
 module _ (es ps : List ℕ) (shape : goodShape es ps ≡ true) (passed : PassedTable (tableOf es ps)) (d : TagDecoder) (s : List ℕ) (byte : Octets s)
-    (masters : allMasters (tableOf es ps) (opens d) ≡ true) where
+    (masters : allMasters (tableOf es ps) (opens d) ≡ true) (count : length (opens d) ≡ d .«open_count») where
   module _ (reading : Reading d) where
     steps6-facts : (h : TagHeader) → readHeader (tableOf es ps) s ≡ header.Header h → AllFacts ps (tableOf es ps) d s (steps6-11 ps (tableOf es ps) d h s)
     unfolding steps6-11
@@ -404,7 +414,7 @@ module _ (es ps : List ℕ) (shape : goodShape es ps ≡ true) (passed : PassedT
         pick (AllFacts ps t d s) (step6 d h) _ _
         (λ e. record {
           note = f;
-          action = steps8-facts t (noted ps d n) s (noted-reading ps d n reading) (noted-masters ps t d n f masters) byte h is (master-settles es ps shape passed s h is d);
+          action = steps8-facts t (noted ps d n) s (noted-reading ps d n reading) (noted-masters ps t d n f masters) (noted-count ps d n count) byte h is (master-settles es ps shape passed s h is d);
         })
         (λ e. plain-facts ps t d s (act.Refuse error.InvalidTagId) (mild d error.InvalidTagId (omega arith)))
 
@@ -434,7 +444,7 @@ module _ (es ps : List ℕ) (shape : goodShape es ps ≡ true) (passed : PassedT
       (λ g.
       let reading : Reading d = record { none-waiting = none; unfinished = g } in
       pick (AllFacts ps t d s) (ltb (step3 d) (d .«open_count»)) (plain (closing t d (step3 d))) _
-      (λ i. plain-facts ps t d s (closing t d (step3 d)) (closing-facts t d s reading masters (step3 d)))
+      (λ i. plain-facts ps t d s (closing t d (step3 d)) (closing-facts t d s reading masters count (step3 d) (step3-batch d count (ltb-true _ _ i))))
       (λ i. steps4-facts reading)))
 
   -- 10 and 11 do not come either

@@ -1,4 +1,5 @@
 pub mod Examples
+pub mod Ends
 pub mod Decided
 pub mod Tied
 pub mod Moves

@@ -33,7 +33,8 @@ use Rattle.guarantees.specs.Calls.{impliedBy}
 use Rattle.guarantees.specs.History.{Started, laterEnd, later, leftByEnd, endAfter}
 use Rattle.guarantees.specs.Promises.{EndMatches}
 use Rattle.guarantees.proofs.Decided.{allMasters, is-master, Small}
-use Rattle.guarantees.proofs.Tied.{knownEnd, asStarted, parentOf, asEnd, stack, endedBy, allEnded, allStarted, Linked, map-same, popped, none-open, both-empty}
+use Rattle.guarantees.proofs.Ends.{knownEnd, every-reversed}
+use Rattle.guarantees.proofs.Tied.{asStarted, parentOf, asEnd, stack, allEnded, allStarted, Linked, map-same, popped, none-open, both-empty}
 
 -- ---- settings, and the position
 
@@ -73,13 +74,6 @@ module _ (t : List Entry) (d : TagDecoder) (starts : List Started) (left : List 
 map-reversed : {A B : Type 0} (f : A → B) (l : List A) → map f (reverse l) ≡ reverse (map f l)
 map-reversed f [] = refl
 map-reversed f (a ∷ l) = ap (map f) (reverse-cons a l) ∙ map-append f (reverse l) (a ∷ []) ∙ ap (λ (k : List _). k ++ (f a ∷ [])) (map-reversed f l) ∙ sym (reverse-cons (f a) (map f l))
-
-pub every-reversed : {A : Type 0} (test : A → Bool) (l : List A) → every test l ≡ true → every test (reverse l) ≡ true
-unfolding every
-every-reversed test [] e = refl
-every-reversed test (a ∷ l) e =
-    let b = both (test a) (every test l) e in
-    rw (reverse-cons a l) (every-append test (reverse l) (a ∷ []) (every-reversed test l (b .right)) (and-both (b .left) refl))
 
 no-ends : (l : List Started) → map asEnd l ≡ [] → l ≡ []
 no-ends [] e = refl

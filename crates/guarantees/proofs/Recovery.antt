@@ -39,7 +39,8 @@ use Rattle.decoder_decide.proofs.Judged.{pick, passed12}
 use Rattle.guarantees.specs.Calls.{impliedBy, orElse, placeNote, scanNote, scanNoteOr}
 use Rattle.guarantees.specs.History.{Started, laterEnd, later, afterSearch}
 use Rattle.guarantees.proofs.Decided.{NoteFacts, step7-facts}
-use Rattle.guarantees.proofs.Tied.{stack, endedBy, allEnded, Linked, Tied}
+use Rattle.guarantees.proofs.Ends.{endedBy}
+use Rattle.guarantees.proofs.Tied.{stack, allEnded, Linked, Tied}
 use Rattle.guarantees.proofs.Moves.{moved-linked, settled-linked, grown-linked}
 use Rattle.guarantees.proofs.Steps.{noted-oversized}
 

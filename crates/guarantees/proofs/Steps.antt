@@ -45,8 +45,9 @@ use Rattle.guarantees.specs.Calls.{impliedBy}
 use Rattle.guarantees.specs.History.{Started, declaredEnd, endAfter, afterAnswer, leftByAnswer, leftByEnd}
 use Rattle.guarantees.specs.Promises.{valueKind, EndMatches}
 use Rattle.guarantees.proofs.Decided.{allMasters, is-master, Mild, Reading, Inside, InsideSize, Small, Starts, Holds, Facts, Settles, NoteFacts, AllFacts, decide-facts}
-use Rattle.guarantees.proofs.Tied.{knownEnd, asStarted, parentOf, asEnd, stack, endedBy, allEnded, allStarted, Linked, Tied, none-open}
-use Rattle.guarantees.proofs.Moves.{every-reversed, none-ended, moved-linked, settled-linked, opened-linked, Popped, handed-linked, closed-linked}
+use Rattle.guarantees.proofs.Ends.{knownEnd, endedBy, every-reversed}
+use Rattle.guarantees.proofs.Tied.{asStarted, parentOf, asEnd, stack, allEnded, allStarted, Linked, Tied, none-open}
+use Rattle.guarantees.proofs.Moves.{none-ended, moved-linked, settled-linked, opened-linked, Popped, handed-linked, closed-linked}
 
 -- ---- what is promised of an answer
 
@@ -283,7 +284,7 @@ module _ (t : List Entry) (d : TagDecoder) (s : List ℕ) (starts : List Started
   move-called act.NeedMore g f = more-called f
   move-called act.Finish g f = finished-called (f .0) (f .1)
   move-called act.HandOut g f = handed-called (hands-out d (length s) g)
-  move-called (act.Close n) g f = closed-called n (closes d (length s) n g .0) f
+  move-called (act.Close n) g f = closed-called n (closes d (length s) n g .0) (f .reading)
   move-called (act.Start x z len) g f = started-called x z len (start-fits d (length s) x z len g .0) (start-fits d (length s) x z len g .1) f
   move-called (act.Data x v n) g f = data-called x v n (passes-on d (length s) x v n g) f
 
@@ -322,7 +323,7 @@ module _ (es ps : List ℕ) (shape : goodShape es ps ≡ true) (passed : PassedT
       let e = noted ps d (a .note) in
       let r = move e (a .action) in
       let left' = impliedBy ps (a .note) ++ left in
-      let f = decide-facts es ps shape passed d s byte (k .linked .masters) (k .linked .good) in
+      let f = decide-facts es ps shape passed d s byte (k .linked .masters) (opens-length d (k .linked .arrays) (k .linked .good .open-count)) (k .linked .good) in
       let here : p ≡ e .position = sym (noted-place ps d (a .note) ∙ k .linked .place) in
       let k' : Tied t e starts left' (e .position) = subst (Tied t e starts left') here (noted-tied ps t d starts left p (a .note) (f .note) k) in
       let c : Called t (e .«allow_oversized») s starts left' (e .position) (r .answer) (r .taken) (r .state) = move-called t e s starts left' k' (a .action) (decide-fits es ps d s byte .action) (f .action) in

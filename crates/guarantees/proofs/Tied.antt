@@ -25,13 +25,10 @@ use Rattle.decoder_state.proofs.Kept.{waits, Arrays, opens-length, waits-length
 use Rattle.decoder_state.proofs.Stays.{fresh-good}
 use Rattle.guarantees.specs.History.{Started, laterEnd, later, leftByEnd}
 use Rattle.guarantees.specs.Promises.{EndMatches}
+use Rattle.guarantees.proofs.Ends.{knownEnd, endedBy}
 use Rattle.guarantees.proofs.Decided.{allMasters}
 
 -- ---- an open master as a caller saw it start
-
-abbrev pub knownEnd : Bool → ℕ → Given
-knownEnd true e = Number e
-knownEnd false e = Nothing
 
 abbrev pub asStarted : OpenTag → Started
 asStarted m = record { id = m .id; offset = m .«tag_start»; end = knownEnd (m .known) (endOf m) }
@@ -46,11 +43,6 @@ asEnd m = record { id = m .id; offset = m .offset }
 
 abbrev pub stack : List Started → List ℕ → List Started
 stack starts left = starts ++ map parentOf left
-
--- the master ends at p or before, if its size is known
-abbrev pub endedBy : ℕ → Given → Bool
-endedBy p Nothing = true
-endedBy p (Number e) = leb e p
 
 abbrev pub allEnded : ℕ → List Started → Bool
 allEnded p l = every (λ m. endedBy p (m .end)) l

@@ -90,6 +90,15 @@ unfoldable pub startsDeclared : List Entry → List Step → List Started
 startsDeclared t [] = []
 startsDeclared t (s ∷ h) = afterDeclared t (lent (s .call)) (s .told) (startsDeclared t h)
 
+-- where the outermost of them that is of known size ends
+abbrev pub firstEnd : Given → Given → Given
+firstEnd Nothing g = g
+firstEnd (Number e) g = Number e
+
+unfoldable pub outermostEnd : List Started → Given
+outermostEnd [] = Nothing
+outermostEnd (m ∷ l) = firstEnd (outermostEnd l) (m .end)
+
 -- ---- the implied parents that have not had their End, the innermost first
 
 -- an End that comes while no Start is open takes the first of them away

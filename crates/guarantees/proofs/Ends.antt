@@ -1,0 +1,118 @@
+-- Which masters close together: the outermost of them that is of known size is full. Closing by position (3) begins at one that is full, and closing by
+-- the next ID (10) takes masters of unknown size alone. Assumes nothing.
+use Prim.Native.Nat.{ℕ, zero, suc, _+_, _-_, _≤_, _<_}
+use mathlib.Core.Path.{_≡_, refl, sym, ap, _∙_, subst}
+use mathlib.Core.Bool.{Bool, true, false, cond, not, _&&_, false≢true}
+use mathlib.Core.List.{List, [], _∷_, _++_, reverse, reverse-append, reverse-reverse, reverse-cons}
+use native.Mathlib.Numerals.{add-one}
+use native.Mathlib.Omega.{arith}
+use lib.Dec.{leb, ltb}
+use lib.ListN.{length, take, drop, length-drop, length-reverse, take-append-drop}
+use lib.Seq.{take-at, drop-at}
+use Rattle.table.specs.Lists.{every}
+use Rattle.table.specs.Table.{Entry}
+use Rattle.spec_util.specs.Ended.{isEndedBy}
+use Rattle.spec_util.specs.declared.types.OpenTag.{OpenTag}
+use Rattle.decoder_state.specs.State.{opens, endOf}
+use Rattle.decoder_state.specs.OneCall.{isDone, firstIndex, step3, endedTops, step10}
+use Rattle.decoder_state.specs.declared.types.Given.{Given}
+use Rattle.decoder_state.specs.declared.types.Given.the-variants.{Nothing, Number}
+use Rattle.decoder_state.specs.declared.types.TagDecoder.{TagDecoder}
+use Rattle.decoder_state.proofs.Good.{and-both, both, every-append}
+use Rattle.guarantees.specs.History.{firstEnd}
+
+abbrev pub knownEnd : Bool → ℕ → Given
+knownEnd true e = Number e
+knownEnd false e = Nothing
+
+-- a master of this end has ended at p, if its size is known
+abbrev pub endedBy : ℕ → Given → Bool
+endedBy p Nothing = true
+endedBy p (Number e) = leb e p
+
+-- the end of the first master of known size, outermost first
+unfoldable pub firstKnown : List OpenTag → Given
+firstKnown [] = Nothing
+firstKnown (m ∷ l) = firstEnd (knownEnd (m .known) (endOf m)) (firstKnown l)
+
+-- of the masters above the first k, the outermost of known size is full
+abbrev pub FullBatch : TagDecoder → ℕ → Type 0
+FullBatch d k = endedBy (d .position) (firstKnown (drop k (opens d))) ≡ true
+
+-- ---- lists
+
+pub every-reversed : {A : Type 0} (test : A → Bool) (l : List A) → every test l ≡ true → every test (reverse l) ≡ true
+unfolding every
+every-reversed test [] e = refl
+every-reversed test (a ∷ l) e =
+    let b = both (test a) (every test l) e in
+    rw (reverse-cons a l) (every-append test (reverse l) (a ∷ []) (every-reversed test l (b .right)) (and-both (b .left) refl))
+
+-- the last n of a list, innermost first
+pub take-reversed : {A : Type 0} (l : List A) (n : ℕ) → take (length l - n) (reverse l) ≡ reverse (drop n l)
+take-reversed l n =
+    ap (λ (k : List _). take (length l - n) (reverse k)) (sym (take-append-drop n l))
+    ∙ ap (take (length l - n)) (reverse-append (take n l) (drop n l))
+    ∙ take-at (reverse (drop n l)) (reverse (take n l)) (length l - n) (simp (length-reverse, length-drop))
+
+-- ---- 3
+
+done-known : (b : Bool) (p e : ℕ) (g : Given) → (b && leb e p) ≡ true → endedBy p (firstEnd (knownEnd b e) g) ≡ true
+done-known true p e g h = h
+done-known false p e g h = absurd (false≢true h)
+
+first-full : (p : ℕ) (l : List OpenTag) → firstIndex (isDone p) l < length l → endedBy p (firstKnown (drop (firstIndex (isDone p) l) l)) ≡ true
+unfolding firstIndex firstKnown isDone
+first-full p [] h = absurd (omega arith)
+first-full p (m ∷ l) h = go (m .known && leb (endOf m) p) refl h (λ g. first-full p l g)
+  where
+    go : (b : Bool) → (m .known && leb (endOf m) p) ≡ b → cond b 0 (firstIndex (isDone p) l + 1) < suc (length l)
+        → (firstIndex (isDone p) l < length l → endedBy p (firstKnown (drop (firstIndex (isDone p) l) l)) ≡ true)
+        → endedBy p (firstKnown (drop (cond b 0 (firstIndex (isDone p) l + 1)) (m ∷ l))) ≡ true
+    go true e h rest = done-known (m .known) p (endOf m) (firstKnown l) e
+    go false e h rest = rw add-one (rest (omega arith))
+
+pub step3-batch : (d : TagDecoder) → length (opens d) ≡ d .«open_count» → step3 d < d .«open_count» → FullBatch d (step3 d)
+step3-batch d n h = first-full (d .position) (opens d) (omega arith)
+
+-- ---- 10
+
+abbrev unknown : OpenTag → Bool
+unknown m = not (m .known)
+
+unknown-first : (p : ℕ) (l : List OpenTag) → every unknown l ≡ true → endedBy p (firstKnown l) ≡ true
+unfolding every firstKnown
+unknown-first p [] h = refl
+unknown-first p (m ∷ l) h = let b = both (unknown m) (every unknown l) h in go (m .known) (b .left) (unknown-first p l (b .right))
+  where
+    go : (k : Bool) → not k ≡ true → endedBy p (firstKnown l) ≡ true → endedBy p (firstEnd (knownEnd k (endOf m)) (firstKnown l)) ≡ true
+    go true e r = absurd (false≢true e)
+    go false e r = r
+
+tops-unknown : (t : List Entry) (x : ℕ) (l : List OpenTag) → every unknown (take (endedTops t x l) l) ≡ true
+unfolding endedTops every
+tops-unknown t x [] = refl
+tops-unknown t x (m ∷ l) = go (not (m .known)) refl (isEndedBy t (m .id) x) (tops-unknown t x l)
+  where
+    go : (a : Bool) → not (m .known) ≡ a → (b : Bool) → every unknown (take (endedTops t x l) l) ≡ true → every unknown (take (cond (a && b) (endedTops t x l + 1) 0) (m ∷ l)) ≡ true
+    go true e true r = rw add-one (and-both e r)
+    go true e false r = refl
+    go false e b r = refl
+
+tops-few : (t : List Entry) (x : ℕ) (l : List OpenTag) → endedTops t x l ≤ length l
+unfolding endedTops
+tops-few t x [] = omega arith
+tops-few t x (m ∷ l) = go (not (m .known) && isEndedBy t (m .id) x) (tops-few t x l)
+  where
+    go : (b : Bool) → endedTops t x l ≤ length l → cond b (endedTops t x l + 1) 0 ≤ suc (length l)
+    go true r = omega arith
+    go false r = omega arith
+
+pub step10-batch : (t : List Entry) (d : TagDecoder) (x : ℕ) → length (opens d) ≡ d .«open_count» → step10 t d x < d .«open_count» → FullBatch d (step10 t d x)
+step10-batch t d x n h =
+    let j = endedTops t x (reverse (opens d)) in
+    let e : length (opens d) - step10 t d x ≡ j = omega (arith, tops-few t x (reverse (opens d)), length-reverse (opens d)) in
+    let r : take j (reverse (opens d)) ≡ reverse (drop (step10 t d x) (opens d)) = ap (λ (i : ℕ). take i (reverse (opens d))) (sym e) ∙ take-reversed (opens d) (step10 t d x) in
+    unknown-first (d .position) (drop (step10 t d x) (opens d))
+    (subst (λ (l : List OpenTag). every unknown l ≡ true) (ap reverse r ∙ reverse-reverse (drop (step10 t d x) (opens d)))
+    (every-reversed unknown (take j (reverse (opens d))) (tops-unknown t x (reverse (opens d)))))
