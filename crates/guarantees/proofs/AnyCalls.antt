@@ -71,7 +71,7 @@ module _ (es ps : List ℕ) (checked : checkTable es ps ≡ Passed) (d : TagDeco
   set-tied ids hierarchy oversized given max =
       let z : p ≡ p + 0 = omega arith in
       subst (Tied (tableOf es ps) (withSettings d ids hierarchy oversized given max) starts left) z
-      (record { linked = settings-linked (tableOf es ps) d starts left p (k .linked) ids hierarchy oversized given max; finished = k .finished; full = k .full })
+      (record { linked = settings-linked (tableOf es ps) d starts left p (k .linked) ids hierarchy oversized given max; finished = k .finished; full = k .full; batch = k .batch })
 
   limited : (n : Given) → Tied (tableOf es ps) (limitedTo d n) starts left (p + 0)
   limited Nothing = set-tied (d .«allow_ids») (d .«allow_hierarchy») (d .«allow_oversized») false 0

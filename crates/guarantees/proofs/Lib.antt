@@ -2,6 +2,7 @@ pub mod Examples
 pub mod Ends
 pub mod Decided
 pub mod Tied
+pub mod Outermost
 pub mod Moves
 pub mod Steps
 pub mod Recovery

@@ -282,7 +282,7 @@ grown-later n m =
     sum : m .«data_start» + m .size + n ≡ m .«data_start» + (m .size + n)
     sum = omega arith
 
-stack-later : (n : ℕ) (starts : List Started) (left : List ℕ) → stack (map (later n) starts) left ≡ map (later n) (stack starts left)
+pub stack-later : (n : ℕ) (starts : List Started) (left : List ℕ) → stack (map (later n) starts) left ≡ map (later n) (stack starts left)
 unfolding later
 stack-later n starts left = ap (λ (l : List Started). map (later n) starts ++ l) (sym (map-map (later n) parentOf left)) ∙ sym (map-append (later n) starts (map parentOf left))
 

@@ -6,7 +6,7 @@ use mathlib.Core.List.{List, [], _∷_, _++_, map, reverse}
 use native.Mathlib.Omega.{arith}
 use borrow.Author.Tests.{leb-true, le-leb}
 use lib.Dec.{leb}
-use lib.ListN.{length, length-map}
+use lib.ListN.{length, take, length-map}
 use Rattle.table.specs.Lists.{every}
 use Rattle.table.specs.Shape.{goodShape}
 use Rattle.table.specs.Table.{Entry, tableOf, partsOf, within, isTyped}
@@ -37,12 +37,13 @@ use Rattle.decoder_state.proofs.Kept.{settled-opens}
 use Rattle.decoder_state.proofs.Stays.{implied-good, grown-good}
 use Rattle.decoder_decide.proofs.Judged.{pick, passed12}
 use Rattle.guarantees.specs.Calls.{impliedBy, orElse, placeNote, scanNote, scanNoteOr}
-use Rattle.guarantees.specs.History.{Started, laterEnd, later, afterSearch}
+use Rattle.guarantees.specs.History.{Started, laterEnd, later, outermostEnd, afterSearch}
 use Rattle.guarantees.proofs.Decided.{NoteFacts, step7-facts}
 use Rattle.guarantees.proofs.Ends.{endedBy}
 use Rattle.guarantees.proofs.Tied.{stack, allEnded, Linked, Tied}
-use Rattle.guarantees.proofs.Moves.{moved-linked, settled-linked, grown-linked}
-use Rattle.guarantees.proofs.Steps.{noted-oversized}
+use Rattle.guarantees.proofs.Outermost.{none-batch, ended-grown, batch-later}
+use Rattle.guarantees.proofs.Moves.{moved-linked, settled-linked, stack-later, grown-linked}
+use Rattle.guarantees.proofs.Steps.{noted-oversized, unsettled-waiting}
 
 -- ---- ends and places
 
@@ -52,10 +53,6 @@ ended-later p q h (Number f) e = le-leb f q (omega (arith, leb-true f p e))
 
 all-later : (p q : ℕ) → p ≤ q → (l : List Started) → allEnded p l ≡ true → allEnded q l ≡ true
 all-later p q h l e = every-other (λ m. endedBy p (m .end)) (λ m. endedBy q (m .end)) (λ m f. ended-later p q h (m .end) f) l e
-
-ended-grown : (p n : ℕ) (g : Given) → endedBy p g ≡ true → endedBy (p + n) (laterEnd n g) ≡ true
-ended-grown p n Nothing e = refl
-ended-grown p n (Number f) e = le-leb (f + n) (p + n) (omega (arith, leb-true f p e))
 
 all-grown : (p n : ℕ) (l : List Started) → allEnded p l ≡ true → allEnded (p + n) (map (later n) l) ≡ true
 unfolding later
@@ -84,6 +81,7 @@ record Passing (t : List Entry) (starts : List Started) (left : List ℕ) (p : �
   linked : Linked t e starts left (e .position)
   finished : e .finished ≡ true → length starts ≤ e .«waiting_count»
   full : e .finished ≡ true → allEnded p starts ≡ true
+  batch : endedBy p (outermostEnd (take (e .«waiting_count») (stack starts left))) ≡ true
   behind : p ≤ e .position
   good : every (goodOpen p) (opens e) ≡ true
   near : e .position + n ≤ 2 ^ 62
@@ -98,6 +96,7 @@ module _ (t : List Entry) (starts : List Started) (left : List ℕ) (p : ℕ) (e
         linked = moved-linked t e starts left (e .position) (k .linked) (e .position + 1) (e .finished) (omega arith) (omega arith);
         finished = k .finished;
         full = k .full;
+        batch = k .batch;
         behind = omega arith;
         good = k .good;
         near = omega arith;
@@ -110,6 +109,7 @@ module _ (t : List Entry) (starts : List Started) (left : List ℕ) (p : ℕ) (e
     linked = settled-linked t e starts left (e .position) (k .linked) (within (partsOf ps) path) (f .unsettled) (f .masters) (f .short);
     finished = k .finished;
     full = k .full;
+    batch = none-batch (e .«waiting_count») (unsettled-waiting t e starts left (e .position) (k .linked) (f .unsettled)) p _;
     behind = k .behind;
     good = rw (settled-opens e (within (partsOf ps) path)) (implied-all p (within (partsOf ps) path));
     near = k .near;
@@ -127,6 +127,7 @@ module _ (t : List Entry) (s : List ℕ) (starts : List Started) (left : List �
           linked = subst (Linked t e starts left) here (k .linked);
           finished = k .finished;
           full = λ f. all-later (d .position) (d .position + (e .position - d .position)) (omega arith) starts (k .full f);
+          batch = ended-later (d .position) (d .position + (e .position - d .position)) (omega arith) (outermostEnd (take (e .«waiting_count») (stack starts left))) (k .batch);
         };
       }
 
@@ -142,6 +143,7 @@ module _ (t : List Entry) (s : List ℕ) (starts : List Started) (left : List �
           linked = subst (Linked t (grown e m) (map (later m) starts) left) here (grown-linked t e starts left (e .position) (k .linked) m g);
           finished = λ f. rw length-map (k .finished f);
           full = λ f. all-grown (d .position) m starts (k .full f);
+          batch = batch-later (d .position) m (e .«waiting_count») (stack starts left) (stack (map (later m) starts) left) (stack-later m starts left) (k .batch);
         };
       }
 
@@ -253,7 +255,7 @@ module _ (es ps : List ℕ) (shape : goodShape es ps ≡ true) (passed : PassedT
       go Pass e f =
           let first = passed12 es ps d (length lent) e in
           scan-searched lent d left
-          (record { linked = here .linked; finished = here .finished; full = here .full; behind = omega arith; good = here .linked .good .masters; near = first .near })
+          (record { linked = here .linked; finished = here .finished; full = here .full; batch = here .batch; behind = omega arith; good = here .linked .good .masters; near = first .near })
       go (Fail x) e f = record { promised = f; tied = unfold impliedBy in still }
 
 -- ---- a recovery leaves the settings

@@ -37,16 +37,17 @@ use Rattle.decoder_state.specs.declared.types.Note.{Note}
 use Rattle.decoder_state.specs.declared.types.Note.the-variants.{NoNote, Settle}
 use Rattle.decoder_state.specs.declared.types.TagDecoder.{TagDecoder}
 use Rattle.decoder_state.proofs.Good.{GoodState, every-drop, every-map, and-both, both, is-good-open}
-use Rattle.decoder_state.proofs.Kept.{opens-length}
+use Rattle.decoder_state.proofs.Kept.{opens-length, waits-length}
 use Rattle.decoder_decide.proofs.Judged.{pick}
 use Rattle.tag_decoder.specs.Fits.{Fits, NoteFits}
 use Rattle.tag_decoder.proofs.Fitting.{decide-fits, hands-out, closes, starts as start-fits, passes-on}
 use Rattle.guarantees.specs.Calls.{impliedBy}
-use Rattle.guarantees.specs.History.{Started, declaredEnd, endAfter, afterAnswer, leftByAnswer, leftByEnd}
+use Rattle.guarantees.specs.History.{Started, declaredEnd, endAfter, afterAnswer, outermostEnd, leftByAnswer, leftByEnd}
 use Rattle.guarantees.specs.Promises.{valueKind, EndMatches}
-use Rattle.guarantees.proofs.Decided.{allMasters, is-master, Mild, Reading, Inside, InsideSize, Small, Starts, Holds, Facts, Settles, NoteFacts, AllFacts, decide-facts}
+use Rattle.guarantees.proofs.Decided.{allMasters, is-master, Mild, Reading, Inside, InsideSize, Small, Starts, Holds, Closes, Facts, Settles, NoteFacts, AllFacts, decide-facts}
 use Rattle.guarantees.proofs.Ends.{knownEnd, endedBy, every-reversed}
-use Rattle.guarantees.proofs.Tied.{asStarted, parentOf, asEnd, stack, allEnded, allStarted, Linked, Tied, none-open}
+use Rattle.guarantees.proofs.Tied.{asStarted, parentOf, asEnd, stack, allEnded, allStarted, Linked, Tied, none-open, both-empty}
+use Rattle.guarantees.proofs.Outermost.{none-batch, batch-less, all-batch, batch-closed}
 use Rattle.guarantees.proofs.Moves.{none-ended, moved-linked, settled-linked, opened-linked, Popped, handed-linked, closed-linked}
 
 -- ---- what is promised of an answer
@@ -105,11 +106,24 @@ Measured t s p answer.NeedMore n = Unit {0}
 Measured t s p answer.Finished n = Unit {0}
 Measured t s p (answer.Refused r) n = Unit {0}
 
+-- an End closes with those that still wait, of which the outermost of known size is full: l are the open Starts and the implied parents
+abbrev pub BatchEvent : List Started → ℕ → Event → TagDecoder → Type 0
+BatchEvent l p (event.Start x o) e = Unit {0}
+BatchEvent l p (event.End x o) e = endedBy p (outermostEnd (take (e .«waiting_count» + 1) l)) ≡ true
+BatchEvent l p (event.Data x o v) e = Unit {0}
+
+abbrev pub Batch : List Started → ℕ → Answer → TagDecoder → Type 0
+Batch l p (answer.Event x) e = BatchEvent l p x e
+Batch l p answer.NeedMore e = Unit {0}
+Batch l p answer.Finished e = Unit {0}
+Batch l p (answer.Refused r) e = Unit {0}
+
 -- a call answers a, takes n bytes and leaves the record e
 pub record Called (t : List Entry) (off : Bool) (s : List ℕ) (starts : List Started) (left : List ℕ) (p : ℕ) (a : Answer) (n : ℕ) (e : TagDecoder) : Type 0 where
   pub promised : AnswerFacts t off s starts left p a
   pub quiet : Quiet a n e
   pub measured : Measured t s p a n
+  pub batch : Batch (stack starts left) p a e
   pub tied : Tied t e (afterAnswer t s a starts) (leftByAnswer a starts left) (p + n)
   -- the input is not ended while a Start of known size that is open is not full
   pub closes-full : e .finished ≡ true → allEnded p starts ≡ true
@@ -179,16 +193,17 @@ module _ (t : List Entry) (d : TagDecoder) (s : List ℕ) (starts : List Started
     };
     quiet = tt;
     measured = tt;
+    batch = tt;
     tied = same-place;
     closes-full = k .full;
     kept = refl;
   }
 
   more-called : Reading d → Called t (d .«allow_oversized») s starts left (d .position) answer.NeedMore 0 d
-  more-called r = record { promised = tt; quiet = (refl, r .none-waiting); measured = tt; tied = same-place; closes-full = k .full; kept = refl }
+  more-called r = record { promised = tt; quiet = (refl, r .none-waiting); measured = tt; batch = tt; tied = same-place; closes-full = k .full; kept = refl }
 
   finished-called : d .«waiting_count» ≡ 0 → d .finished ≡ true → Called t (d .«allow_oversized») s starts left (d .position) answer.Finished 0 d
-  finished-called w f = record { promised = no-starts starts (omega (arith, k .finished f)); quiet = (refl, w); measured = tt; tied = same-place; closes-full = k .full; kept = refl }
+  finished-called w f = record { promised = no-starts starts (omega (arith, k .finished f)); quiet = (refl, w); measured = tt; batch = tt; tied = same-place; closes-full = k .full; kept = refl }
 
   handed-called : 0 < d .«waiting_count»
       → Called t (d .«allow_oversized») s starts left (d .position) (answer.Event (event.End (getD (d .waiting) 0 noEnd .id) (getD (d .waiting) 0 noEnd .offset))) 0 (handedOut d)
@@ -196,33 +211,42 @@ module _ (t : List Entry) (d : TagDecoder) (s : List ℕ) (starts : List Started
   handed-called h =
       let o = handed-linked t d starts left (d .position) (k .linked) h in
       let e : d .position ≡ d .position + 0 = omega arith in
+      let one : d .«waiting_count» ≡ d .«waiting_count» - 1 + 1 = omega arith in
+      let full = subst (λ (w : ℕ). endedBy (d .position) (outermostEnd (take w (stack starts left))) ≡ true) one (k .batch) in
       record {
         promised = (master-is _ (o .master), o .matches);
         quiet = tt;
         measured = tt;
+        batch = full;
         tied = record {
           linked = subst (Linked t (handedOut d) (drop 1 starts) (leftByEnd starts left)) e (o .linked);
           finished = λ f. omega (arith, k .finished f, length-drop 1 starts);
           full = λ f. subst (λ (q : ℕ). allEnded q (drop 1 starts) ≡ true) e (every-drop (λ (m : Started). endedBy (d .position) (m .end)) 1 starts (k .full f));
+          batch = subst (λ (q : ℕ). endedBy q (outermostEnd (take (d .«waiting_count» - 1) (stack (drop 1 starts) (leftByEnd starts left)))) ≡ true) e (batch-less starts left (d .«waiting_count» - 1) (d .position) full);
         };
         closes-full = k .full;
         kept = refl;
       }
 
-  closed-called : (n : ℕ) → n < d .«open_count» → Reading d
+  closed-called : (n : ℕ) → n < d .«open_count» → Closes d n
       → Called t (d .«allow_oversized») s starts left (d .position) (answer.Event (event.End (getD (d .«open») (d .«open_count» - 1) noTag .id) (getD (d .«open») (d .«open_count» - 1) noTag .«tag_start»))) 0 (closedTo d n)
   unfolding closedTo withOpen withWaiting
-  closed-called n h r =
+  closed-called n h f =
+      let r = f .reading in
       let o = closed-linked t d starts left (d .position) (k .linked) n (r .none-waiting) h in
       let e : d .position ≡ d .position + 0 = omega arith in
+      let count : length (opens d) - n ≡ d .«open_count» - n - 1 + 1 = omega (arith, opens-length d (k .linked .arrays) (k .linked .good .open-count)) in
+      let full = batch-closed d (stack starts left) n (d .«open_count» - n - 1 + 1) (stack-is t d starts left (d .position) (k .linked) (r .none-waiting)) count (f .batch) in
       record {
         promised = (master-is _ (o .master), o .matches);
         quiet = tt;
         measured = tt;
+        batch = full;
         tied = record {
           linked = subst (Linked t (closedTo d n) (drop 1 starts) (leftByEnd starts left)) e (o .linked);
           finished = λ f. absurd (true≢false (sym f ∙ r .unfinished));
           full = λ f. absurd (true≢false (sym f ∙ r .unfinished));
+          batch = subst (λ (q : ℕ). endedBy q (outermostEnd (take (d .«open_count» - n - 1) (stack (drop 1 starts) (leftByEnd starts left)))) ≡ true) e (batch-less starts left (d .«open_count» - n - 1) (d .position) full);
         };
         closes-full = k .full;
         kept = refl;
@@ -247,11 +271,13 @@ module _ (t : List Entry) (d : TagDecoder) (s : List ℕ) (starts : List Started
         promised = (f .master, record { offset = refl; inside = rw (f .end) (ends-inside z len (f .reading .none-waiting) (f .inside)) });
         quiet = tt;
         measured = tt;
+        batch = tt;
         tied = record {
           linked = subst (λ (o : Started). Linked t (opened e m) (o ∷ starts) left (d .position + len)) is
               (opened-linked t e starts left (d .position + len) moved m (f .reading .none-waiting) (f .settled) few (open-good x (d .position) len z (f .small)) master);
           finished = λ g. absurd (true≢false (sym g ∙ f .reading .unfinished));
           full = λ g. absurd (true≢false (sym g ∙ f .reading .unfinished));
+          batch = none-batch (d .«waiting_count») (f .reading .none-waiting) _ _;
         };
         closes-full = k .full;
         kept = refl;
@@ -265,10 +291,12 @@ module _ (t : List Entry) (d : TagDecoder) (s : List ℕ) (starts : List Started
         promised = (f .kind, record { offset = refl; inside = rw (f .end) within });
         quiet = tt;
         measured = f .end;
+        batch = tt;
         tied = record {
           linked = moved-linked t d starts left (d .position) (k .linked) (d .position + n) (d .finished) (omega arith) near;
           finished = λ g. absurd (true≢false (sym g ∙ f .reading .unfinished));
           full = λ g. absurd (true≢false (sym g ∙ f .reading .unfinished));
+          batch = none-batch (d .«waiting_count») (f .reading .none-waiting) _ _;
         };
         closes-full = k .full;
         kept = refl;
@@ -284,11 +312,16 @@ module _ (t : List Entry) (d : TagDecoder) (s : List ℕ) (starts : List Started
   move-called act.NeedMore g f = more-called f
   move-called act.Finish g f = finished-called (f .0) (f .1)
   move-called act.HandOut g f = handed-called (hands-out d (length s) g)
-  move-called (act.Close n) g f = closed-called n (closes d (length s) n g .0) (f .reading)
+  move-called (act.Close n) g f = closed-called n (closes d (length s) n g .0) f
   move-called (act.Start x z len) g f = started-called x z len (start-fits d (length s) x z len g .0) (start-fits d (length s) x z len g .1) f
   move-called (act.Data x v n) g f = data-called x v n (passes-on d (length s) x v n g) f
 
 -- ---- the note
+
+pub unsettled-waiting : (t : List Entry) (d : TagDecoder) (starts : List Started) (left : List ℕ) (p : ℕ) → Linked t d starts left p → d .settled ≡ false → d .«waiting_count» ≡ 0
+unsettled-waiting t d starts left p k u =
+    let none : k .ended ≡ [] = both-empty (k .ended) _ (sym (k .parts) ∙ k .unsettled u) .0 in
+    sym (waits-length d (k .arrays) (k .good .waiting-count)) ∙ ap length (sym (k .waiting)) ∙ ap (λ (l : List Started). length (map asEnd l)) none
 
 pub noted-tied : (ps : List ℕ) (t : List Entry) (d : TagDecoder) (starts : List Started) (left : List ℕ) (p : ℕ) (n : Note) → NoteFacts ps t d n → Tied t d starts left p
     → Tied t (noted ps d n) starts (impliedBy ps n ++ left) p
@@ -298,6 +331,7 @@ noted-tied ps t d starts left p (Settle path) f k = record {
   linked = settled-linked t d starts left p (k .linked) (within (partsOf ps) path) (f .unsettled) (f .masters) (f .short);
   finished = k .finished;
   full = k .full;
+  batch = none-batch (d .«waiting_count») (unsettled-waiting t d starts left p (k .linked) (f .unsettled)) p _;
 }
 
 noted-place : (ps : List ℕ) (d : TagDecoder) (n : Note) → noted ps d n .position ≡ d .position
@@ -367,6 +401,7 @@ module _ (t : List Entry) (off : Bool) (d : TagDecoder) (s : List ℕ) (starts :
     promised = record { not-10 = λ z. omega arith; not-11 = λ z. omega arith; not-24 = λ z. omega arith; at-19 = λ z. absurd (omega arith) };
     quiet = tt;
     measured = tt;
+    batch = tt;
     tied = same-place t d s starts left k;
     closes-full = k .full;
     kept = same;
@@ -392,10 +427,12 @@ module _ (t : List Entry) (off : Bool) (d : TagDecoder) (s : List ℕ) (starts :
           promised = empty;
           quiet = (refl, none);
           measured = tt;
+          batch = tt;
           tied = record {
             linked = subst (Linked t e starts left) z at-end;
             finished = λ _. omega (arith, few-starts);
             full = λ _. subst (λ (q : ℕ). allEnded q starts ≡ true) z full;
+            batch = none-batch (d .«waiting_count») none _ _;
           };
           closes-full = λ _. full;
           kept = same;
@@ -407,10 +444,14 @@ module _ (t : List Entry) (off : Bool) (d : TagDecoder) (s : List ℕ) (starts :
           promised = (master-is _ (o .master), o .matches);
           quiet = tt;
           measured = tt;
+          batch = all-batch (d .position) (d .«open_count» - 0 - 1 + 1) starts left full;
           tied = record {
             linked = subst (Linked t (closedTo e 0) (drop 1 starts) (leftByEnd starts left)) z (o .linked);
             finished = λ _. omega (arith, few-starts, length-drop 1 starts);
             full = λ _. subst (λ (q : ℕ). allEnded q (drop 1 starts) ≡ true) z (every-drop (λ (m : Started). endedBy (d .position) (m .end)) 1 starts full);
+            batch =
+                subst (λ (q : ℕ). endedBy q (outermostEnd (take (d .«open_count» - 0 - 1) (stack (drop 1 starts) (leftByEnd starts left)))) ≡ true) z
+                (batch-less starts left (d .«open_count» - 0 - 1) (d .position) (all-batch (d .position) (d .«open_count» - 0 - 1 + 1) starts left full));
           };
           closes-full = λ _. full;
           kept = same;

@@ -23,7 +23,7 @@ use Rattle.decoder_state.specs.declared.types.TagDecoder.{TagDecoder}
 use Rattle.decoder_state.proofs.Good.{GoodState, every-append, and-both, both, is-good-open}
 use Rattle.decoder_state.proofs.Kept.{waits, Arrays, opens-length, waits-length, fresh-arrays}
 use Rattle.decoder_state.proofs.Stays.{fresh-good}
-use Rattle.guarantees.specs.History.{Started, laterEnd, later, leftByEnd}
+use Rattle.guarantees.specs.History.{Started, laterEnd, later, outermostEnd, leftByEnd}
 use Rattle.guarantees.specs.Promises.{EndMatches}
 use Rattle.guarantees.proofs.Ends.{knownEnd, endedBy}
 use Rattle.guarantees.proofs.Decided.{allMasters}
@@ -71,9 +71,11 @@ pub record Tied (t : List Entry) (d : TagDecoder) (starts : List Started) (left 
   -- after the end of input only Starts whose End waits are open, and they are full
   pub finished : d .finished ≡ true → length starts ≤ d .«waiting_count»
   pub full : d .finished ≡ true → allEnded p starts ≡ true
+  -- of those whose End waits the outermost of known size is full
+  pub batch : endedBy p (outermostEnd (take (d .«waiting_count») (stack starts left))) ≡ true
 
 pub fresh-tied : (t : List Entry) → Tied t fresh [] [] 0
-unfolding every
+unfolding every outermostEnd
 fresh-tied t = record {
   linked = record {
     arrays = fresh-arrays;
@@ -89,6 +91,7 @@ fresh-tied t = record {
   };
   finished = λ e. absurd (false≢true e);
   full = λ e. absurd (false≢true e);
+  batch = refl;
 }
 
 -- ---- lists
