@@ -30,9 +30,9 @@ use Rattle.tag_decoder.specs.Settings.{withSettings, allowing, limitedTo}
 use Rattle.guarantees.specs.Calls.{Call, decoding, ending, recovering, allow, limit, lent, Told, answered, searched, silent, toldBy, next, impliedBy, noteOf, recordAfter, history, Lent}
 use Rattle.guarantees.specs.History.{Started, afterTold, startsOpen, leftBy, parentsLeft, takenBy, position, testAfter, childTestOn}
 use Rattle.guarantees.specs.Promises.{Runs, openAt, placeAt}
-use Rattle.guarantees.proofs.Tied.{Linked, Tied, fresh-tied}
+use Rattle.guarantees.proofs.Tied.{stack, Linked, Tied, fresh-tied}
 use Rattle.guarantees.proofs.Moves.{settings-linked}
-use Rattle.guarantees.proofs.Steps.{AnswerFacts, Measured, Called, decode-called, eof-called, noted-oversized}
+use Rattle.guarantees.proofs.Steps.{AnswerFacts, Measured, Batch, Called, decode-called, eof-called, noted-oversized}
 use Rattle.guarantees.proofs.Recovery.{SearchFacts, Searched, recover-searched, recover-keeps}
 
 -- ---- what the check gives
@@ -55,12 +55,18 @@ MeasuredTold t s p (answered a n) = Measured t s p a n
 MeasuredTold t s p (searched a n) = Unit {0}
 MeasuredTold t s p silent = Unit {0}
 
+abbrev pub BatchTold : List Started → ℕ → Told → TagDecoder → Type 0
+BatchTold l p (answered a n) e = Batch l p a e
+BatchTold l p (searched a n) e = Unit {0}
+BatchTold l p silent e = Unit {0}
+
 -- the promises of what the call c tells, and the invariant after it
 pub record After (es ps : List ℕ) (d : TagDecoder) (starts : List Started) (left : List ℕ) (p : ℕ) (c : Call) : Type 0 where
   pub promised : ToldFacts (tableOf es ps) (d .«allow_oversized») (lent c) starts (impliedBy ps (noteOf es ps d c) ++ left) p (toldBy es ps d c)
   pub tied :
       Tied (tableOf es ps) (next es ps d c) (afterTold (tableOf es ps) (lent c) (toldBy es ps d c) starts) (leftBy (toldBy es ps d c) starts (impliedBy ps (noteOf es ps d c) ++ left)) (p + takenBy (toldBy es ps d c))
   pub measured : MeasuredTold (tableOf es ps) (lent c) p (toldBy es ps d c)
+  pub batch : BatchTold (stack starts (impliedBy ps (noteOf es ps d c) ++ left)) p (toldBy es ps d c) (next es ps d c)
   -- the child-size test is on after it as the call says
   pub test : not (next es ps d c .«allow_oversized») ≡ testAfter c (not (d .«allow_oversized»))
 
@@ -86,15 +92,15 @@ module _ (es ps : List ℕ) (checked : checkTable es ps ≡ Passed) (d : TagDeco
   unfolding impliedBy withSettings
   after (decoding s) byte =
       let c = decode-called es ps (good-shape es ps checked) (passed-gives es ps checked) d s byte starts left p k in
-      record { promised = c .promised; tied = c .tied; measured = c .measured; test = ap not (c .kept) }
+      record { promised = c .promised; tied = c .tied; measured = c .measured; batch = c .batch; test = ap not (c .kept) }
   after (ending s) byte =
       let c = eof-called es ps (good-shape es ps checked) (passed-gives es ps checked) d s byte starts left p k in
-      record { promised = c .promised; tied = c .tied; measured = c .measured; test = ap not (c .kept) }
+      record { promised = c .promised; tied = c .tied; measured = c .measured; batch = c .batch; test = ap not (c .kept) }
   after (recovering s) byte =
       let c = recover-searched es ps (good-shape es ps checked) (passed-gives es ps checked) starts d s left p k in
-      record { promised = c .promised; tied = c .tied; measured = tt; test = ap not (recover-keeps es ps d s) }
-  after (allow ids hierarchy oversized) byte = record { promised = tt; tied = set-tied ids hierarchy oversized (d .«max_given») (d .«max_size»); measured = tt; test = refl }
-  after (limit n) byte = record { promised = tt; tied = limited n; measured = tt; test = same-test n }
+      record { promised = c .promised; tied = c .tied; measured = tt; batch = tt; test = ap not (recover-keeps es ps d s) }
+  after (allow ids hierarchy oversized) byte = record { promised = tt; tied = set-tied ids hierarchy oversized (d .«max_given») (d .«max_size»); measured = tt; batch = tt; test = refl }
+  after (limit n) byte = record { promised = tt; tied = limited n; measured = tt; batch = tt; test = same-test n }
 
 -- ---- any calls
 

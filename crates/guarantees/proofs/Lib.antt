@@ -9,4 +9,5 @@ pub mod Recovery
 pub mod AnyCalls
 pub mod Guarantees
 pub mod Cut
+pub mod Night
 pub mod Needed

@@ -1,5 +1,5 @@
 -- The promises of demand 3 as statements over any calls on a fresh decoder: each speaks of the last of the calls, whatever the calls before it were.
-use Prim.Native.Nat.{ℕ, _+_, _≤_, _<_}
+use Prim.Native.Nat.{ℕ, zero, suc, _+_, _≤_, _<_}
 use mathlib.Core.Path.{_≡_}
 use mathlib.Core.Bool.{Bool, true, false}
 use mathlib.Core.List.{List, [], _∷_, _++_, List·Memᴰ}
@@ -11,7 +11,7 @@ use Rattle.table.specs.declared.types.TagDataType.{TagDataType}
 use Rattle.table.specs.declared.types.TagDataType.the-variants as type
 use Rattle.tag_parse.specs.declared.types.TagValue.{TagValue}
 use Rattle.tag_parse.specs.declared.types.TagValue.the-variants as value
-use Rattle.decoder_state.specs.OneCall.{errorNumber}
+use Rattle.decoder_state.specs.OneCall.{errorNumber, decodeEof}
 use Rattle.decoder_state.specs.declared.types.Answer.{Answer}
 use Rattle.decoder_state.specs.declared.types.Answer.the-variants as answer
 use Rattle.decoder_state.specs.declared.types.Event.{Event}
@@ -20,7 +20,7 @@ use Rattle.decoder_state.specs.declared.types.Given.{Given}
 use Rattle.decoder_state.specs.declared.types.Given.the-variants.{Nothing, Number}
 use Rattle.decoder_state.specs.declared.types.Search.{Search}
 use Rattle.decoder_state.specs.declared.types.Search.the-variants as search
-use Rattle.guarantees.specs.Calls.{Call, lent, Told, answered, searched, silent, toldBy, impliedBy, noteOf, recordAfter, history, Lent}
+use Rattle.guarantees.specs.Calls.{Call, ending, lent, Told, answered, searched, silent, toldBy, impliedBy, noteOf, recordAfter, history, Lent}
 use Rattle.guarantees.specs.History.{Started, declaredEnd, startsOpen, parentsLeft, position}
 
 -- ---- what stands in an answer
@@ -128,3 +128,12 @@ EndOr23 (answer.Event (event.Data x o v)) = ⊥
 EndOr23 answer.NeedMore = ⊥
 EndOr23 answer.Finished = ⊥
 EndOr23 (answer.Refused r) = errorNumber (r .error) ≡ 23
+
+-- the end of input called n times more, with no byte
+unfoldable pub endingAgain : ℕ → List Call → List Call
+endingAgain zero cs = cs
+endingAgain (suc n) cs = ending [] ∷ endingAgain n cs
+
+-- what the end of input with no byte answers after these calls
+abbrev pub atTheEnd : List ℕ → List ℕ → List Call → Answer
+atTheEnd es ps cs = decodeEof es ps (recordAfter es ps cs) [] .answer
