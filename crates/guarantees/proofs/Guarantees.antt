@@ -95,12 +95,12 @@ module _ (es ps : List ℕ) where
       let b = both (isNoRecovery c) (neverRecovered cs) h in
       declared-step (recordAfter es ps cs) c (openAt es ps cs) (b .left) ∙ ap (afterDeclared (tableOf es ps) (lent c) (toldBy es ps (recordAfter es ps cs) c)) (declared-so cs (b .right))
 
-never-off-on : (cs : List Call) → childTestNeverOff cs ≡ true → childTestOn cs ≡ true
+pub never-off-on : (cs : List Call) → childTestNeverOff cs ≡ true → childTestOn cs ≡ true
 unfolding childTestNeverOff childTestOn
 never-off-on [] h = refl
 never-off-on (c ∷ cs) h = let b = both (testAfter c true) (childTestNeverOff cs) h in ap (testAfter c) (never-off-on cs (b .right)) ∙ b .left
 
-not-false : (b : Bool) → not b ≡ true → b ≡ false
+pub not-false : (b : Bool) → not b ≡ true → b ≡ false
 not-false true e = absurd (false≢true e)
 not-false false e = refl
 

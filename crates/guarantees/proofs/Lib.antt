@@ -9,5 +9,6 @@ pub mod Recovery
 pub mod AnyCalls
 pub mod Guarantees
 pub mod Cut
+pub mod Nested
 pub mod Night
 pub mod Needed

@@ -29,13 +29,14 @@ use Rattle.decoder_state.proofs.Good.{both, and-both, every-append, every-take}
 use Rattle.decoder_decide.proofs.Judged.{pick}
 use Rattle.tag_decoder.proofs.Told.{takes-within}
 use Rattle.guarantees.specs.Calls.{Call, ending, lent, Told, answered, toldBy, next, recordAfter, history, Lent}
-use Rattle.guarantees.specs.History.{Started, afterAnswer, firstEnd, outermostEnd, startsOpen, parentsLeft, leftByEnd, position}
+use Rattle.guarantees.specs.History.{Started, afterAnswer, firstEnd, outermostEnd, startsOpen, parentsLeft, leftByEnd, position, childTestNeverOff}
 use Rattle.guarantees.specs.Promises.{answerRefusal, Runs, lastTold, Answers, openAt, leftAt, placeAt, NotFull, EndOr23, endingAgain, atTheEnd}
 use Rattle.guarantees.proofs.Ends.{endedBy}
 use Rattle.guarantees.proofs.Tied.{parentOf, stack}
 use Rattle.guarantees.proofs.AnyCalls.{BatchTold, promised-after}
 use Rattle.guarantees.proofs.Guarantees.{at-most-32}
 use Rattle.guarantees.proofs.Cut.{cut-is-told}
+use Rattle.guarantees.proofs.Nested.{nested-after, outermost-not-full}
 
 -- ---- the outermost of a list
 
@@ -233,3 +234,11 @@ pub cut-outermost : (es ps : List ℕ) (cs : List Call) (f p : ℕ) → Runs es 
 cut-outermost es ps cs f p run k =
     let few = at-most-32 es ps cs run in
     (again-told es ps cs f p run k, comes-23 es ps 32 cs f p run k (omega arith))
+
+-- "if the input ends while a master of known size is open and not full, the end of input answers 23 and no finish (the dietitian's night)": where the
+-- child-size test was never off, this holds of any Start of known size that is open and not full
+pub cut-night : (es ps : List ℕ) (cs : List Call) → Runs es ps cs → childTestNeverOff cs ≡ true → NotFull (openAt es ps cs) (placeAt es ps cs)
+    → ((n : ℕ) → EndOr23 (atTheEnd es ps (endingAgain n cs))) × ((n : ℕ) × (n ≤ 32) × (answerRefusal (atTheEnd es ps (endingAgain n cs)) ≡ 23))
+cut-night es ps cs run on n =
+    let o = outermost-not-full (openAt es ps cs) (placeAt es ps cs) (nested-after es ps cs run on) n in
+    cut-outermost es ps cs (o .0) (placeAt es ps cs) run (record { outermost = o .1; place = refl; beyond = o .2 })
