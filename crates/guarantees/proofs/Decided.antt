@@ -164,7 +164,14 @@ abbrev pub Small : EBMLSize → Type 0
 Small Unknown = Unit {0}
 Small (Known n) = n < 2 ^ 56
 
+-- the header at the front of the bytes is that of the ID x
+pub record Heads (t : List Entry) (s : List ℕ) (x : ℕ) : Type 0 where
+  pub its : TagHeader
+  pub is-read : readHeader t s ≡ header.Header its
+  pub same-id : its .id ≡ x
+
 pub record Starts (t : List Entry) (d : TagDecoder) (s : List ℕ) (x : ℕ) (z : EBMLSize) (len : ℕ) : Type 0 where
+  pub heads : Heads t s x
   pub reading : Reading d
   pub settled : d .settled ≡ true
   pub master : dataTypeOf t x ≡ type.Master
@@ -173,6 +180,7 @@ pub record Starts (t : List Entry) (d : TagDecoder) (s : List ℕ) (x : ℕ) (z 
   pub inside : InsideSize d len z
 
 pub record Holds (t : List Entry) (d : TagDecoder) (s : List ℕ) (x : ℕ) (v : TagValue) (n : ℕ) : Type 0 where
+  pub heads : Heads t s x
   pub reading : Reading d
   pub kind : valueKind v ≡ dataTypeOf t x
   pub end : declaredEnd t (d .position) s ≡ Number (d .position + n)
@@ -242,6 +250,7 @@ module _ (t : List Entry) (d : TagDecoder) (s : List ℕ) (reading : Reading d) 
     data-facts n e (payload.Value v) k =
         let a : d .position + h .len + n ≡ d .position + (h .len + n) = omega arith in
         record {
+          heads = record { its = h; is-read = is; same-id = refl };
           reading = reading;
           kind = k ∙ header-spec t s h is .kind;
           end = end-is ∙ ap (endAfter (d .position + h .len)) e ∙ ap Number a;
@@ -270,6 +279,7 @@ module _ (t : List Entry) (d : TagDecoder) (s : List ℕ) (reading : Reading d) 
           (λ k. pick (Facts t d s) (leb 32 (d .«open_count»)) (act.Refuse error.TooManyOpen) (act.Start (h .id) (h .size) (h .len))
           (λ f. full f)
           (λ f. record {
+            heads = record { its = h; is-read = is; same-id = refl };
             reading = reading;
             settled = settled k;
             master = sym (header-spec t s h is .kind) ∙ master-is (h .kind) k;

@@ -5,8 +5,8 @@ use mathlib.Core.Path.{_≡_, refl, sym, ap, _∙_, subst}
 use mathlib.Core.Bool.{Bool, true, false, not, _&&_, true≢false, false≢true}
 use mathlib.Core.List.{List, [], _∷_, _++_, map, reverse, List·Memᴰ}
 use native.Mathlib.Omega.{arith}
-use borrow.Author.Tests.{leb-true}
-use lib.Dec.{leb}
+use borrow.Author.Tests.{leb-true, eqb-true}
+use lib.Dec.{leb, eqb}
 use lib.ListN.{length, length-append, length-map, length-reverse}
 use Rattle.table.specs.Check.{checkTable}
 use Rattle.table.specs.Lists.{every}
@@ -14,6 +14,9 @@ use Rattle.table.specs.Table.{Entry, tableOf, dataTypeOf}
 use Rattle.table.specs.declared.types.Checked.the-variants.{Passed}
 use Rattle.table.specs.declared.types.TagDataType.the-variants as type
 use Rattle.table.proofs.Every.{every-member}
+use Rattle.tag_parse.specs.Header.{readHeader}
+use Rattle.tag_parse.specs.declared.types.ReadHeader.the-variants as header
+use Rattle.tag_parse.specs.declared.types.TagHeader.{TagHeader}
 use Rattle.tag_parse.specs.declared.types.TagValue.{TagValue}
 use Rattle.decoder_state.specs.State.{opens}
 use Rattle.decoder_state.specs.OneCall.{errorNumber}
@@ -28,11 +31,12 @@ use Rattle.decoder_state.specs.declared.types.Search.the-variants as search
 use Rattle.decoder_state.specs.declared.types.TagDecoder.{TagDecoder}
 use Rattle.decoder_state.proofs.Good.{both}
 use Rattle.decoder_state.proofs.Kept.{opens-length, waits-length}
+use Rattle.tag_decoder.specs.Settings.{isFinished}
 use Rattle.guarantees.specs.Calls.{Call, decoding, ending, recovering, allow, limit, lent, Told, answered, searched, silent, toldBy, recordAfter, history, Lent}
 use Rattle.guarantees.specs.History.{Started, declaredEnd, afterTold, afterDeclared, startsOpen, startsDeclared, parentsLeft, position, testAfter, childTestOn, childTestNeverOff, isNoRecovery, neverRecovered}
 use Rattle.guarantees.specs.Promises.{answerRefusal, refusalOf, eventKind, eventId, elementOffset, Runs, lastTold, Answers, openAt, leftAt, placeAt, EndMatches, EndsInside, NotFull}
 use Rattle.guarantees.proofs.Tied.{parentOf, asEnd, asStarted, stack, Linked, Tied}
-use Rattle.guarantees.proofs.Steps.{reachesTo, allReach, Ends, ElementFacts, EventFacts, RefusalFacts, AnswerFacts}
+use Rattle.guarantees.proofs.Steps.{reachesTo, allReach, Ends, ElementFacts, EventFacts, RefusalFacts, AnswerFacts, no-starts}
 use Rattle.guarantees.proofs.Recovery.{SearchFacts}
 use Rattle.guarantees.proofs.AnyCalls.{ToldFacts, MeasuredTold, After, tied-after, promised-after, test-after}
 
@@ -70,10 +74,10 @@ kind-of t off s starts left p (event.End x o) f = sym (f .0)
 kind-of t off s starts left p (event.Data x o v) f = f .0
 
 element-of : (t : List Entry) (off : Bool) (s : List ℕ) (starts : List Started) (left : List ℕ) (p : ℕ) (e : Event) (o : ℕ) → EventFacts t off s starts left p e → elementOffset e ≡ Number o
-    → ElementFacts t off s starts p o
-element-of t off s starts left p (event.Start x q) o f e = let z : q ≡ o = cc in subst (ElementFacts t off s starts p) z (f .1)
+    → ElementFacts t off s starts p (eventId e) o
+element-of t off s starts left p (event.Start x q) o f e = let z : q ≡ o = cc in subst (ElementFacts t off s starts p x) z (f .1)
 element-of t off s starts left p (event.End x q) o f e = let z : _≡_ {A = ℕ} 0 1 = cc in absurd (omega arith)
-element-of t off s starts left p (event.Data x q v) o f e = let z : q ≡ o = cc in subst (ElementFacts t off s starts p) z (f .1)
+element-of t off s starts left p (event.Data x q v) o f e = let z : q ≡ o = cc in subst (ElementFacts t off s starts p x) z (f .1)
 
 reached : (e : ℕ) (starts : List Started) → allReach e starts ≡ true → EndsInside e starts
 reached e starts h m i f k = leb-true e f (subst (λ (g : Given). reachesTo e g ≡ true) k (every-member (λ (m : Started). reachesTo e (m .end)) h i))
@@ -141,6 +145,13 @@ module _ (es ps : List ℕ) (cs : List Call) (c : Call) (run : Runs es ps (c ∷
   pub offset-is-position : (e : Event) (o : ℕ) → elementOffset e ≡ Number o → Answers es ps cs c (answer.Event e) → o ≡ placeAt es ps cs
   offset-is-position e o i a = element-of (tableOf es ps) (recordAfter es ps cs .«allow_oversized») (lent c) (openAt es ps cs) (leftAt es ps cs c) (placeAt es ps cs) e o (facts _ (a .1)) i .offset
 
+  -- the element is the one whose header stands at the front of the bytes lent, so that `declaredEnd` of them is its end
+  pub element-header : (e : Event) (o : ℕ) → elementOffset e ≡ Number o → Answers es ps cs c (answer.Event e)
+      → (h : TagHeader) × (readHeader (tableOf es ps) (lent c) ≡ header.Header h) × (h .id ≡ eventId e)
+  element-header e o i a =
+      let f = element-of (tableOf es ps) (recordAfter es ps cs .«allow_oversized») (lent c) (openAt es ps cs) (leftAt es ps cs c) (placeAt es ps cs) e o (facts _ (a .1)) i .heads in
+      (f .its, f .is-read, f .same-id)
+
   -- 4. "When the finish is answered, every Start has had its End."
   pub finish-closes : Answers es ps cs c answer.Finished → openAt es ps cs ≡ []
   finish-closes a = facts _ (a .1)
@@ -152,7 +163,7 @@ module _ (es ps : List ℕ) (cs : List Call) (c : Call) (run : Runs es ps (c ∷
   unfolding Lent
   ends-inside on e o end i a k =
       let off : Bool = recordAfter es ps cs .«allow_oversized» in
-      let f : ElementFacts (tableOf es ps) off (lent c) (openAt es ps cs) (placeAt es ps cs) o =
+      let f : ElementFacts (tableOf es ps) off (lent c) (openAt es ps cs) (placeAt es ps cs) (eventId e) o =
       element-of (tableOf es ps) off (lent c) (openAt es ps cs) (leftAt es ps cs c) (placeAt es ps cs) e o (facts _ (a .1)) i in
       let k' : declaredEnd (tableOf es ps) (placeAt es ps cs) (lent c) ≡ Number end = subst (λ (q : ℕ). declaredEnd (tableOf es ps) q (lent c) ≡ Number end) (f .offset) k in
       let is-on : off ≡ false = not-false off (test-after es ps (run .checked) cs (run .octets .1) ∙ on) in
@@ -197,6 +208,14 @@ module _ (es ps : List ℕ) (cs : List Call) (run : Runs es ps cs) where
       let o : length (opens d) ≡ d .«open_count» = opens-length d (k .arrays) (k .good .open-count) in
       let m : length (map asStarted (reverse (opens d))) ≡ length (opens d) = simp (length-map, length-reverse) in
       omega (arith, k .few, ap length (k .parts), length-append (k .ended) (map asStarted (reverse (opens d))), length-map (k .ended) asEnd)
+
+  -- 4, of `is_finished`: where it says so, every Start has had its End
+  pub is-finished-closes : isFinished (recordAfter es ps cs) ≡ true → openAt es ps cs ≡ []
+  is-finished-closes e =
+      let d = recordAfter es ps cs in
+      let b = both (d .finished) (eqb (d .«waiting_count») 0) e in
+      let w : d .«waiting_count» ≡ 0 = eqb-true (d .«waiting_count») 0 (b .right) in
+      no-starts (openAt es ps cs) (omega (arith, tied-now .finished (b .left)))
 
   -- the record's position is the count of all bytes taken
   pub position-is-taken : recordAfter es ps cs .position ≡ placeAt es ps cs

@@ -44,7 +44,7 @@ use Rattle.tag_decoder.proofs.Fitting.{decide-fits, hands-out, closes, starts a
 use Rattle.guarantees.specs.Calls.{impliedBy}
 use Rattle.guarantees.specs.History.{Started, declaredEnd, endAfter, afterAnswer, outermostEnd, leftByAnswer, leftByEnd}
 use Rattle.guarantees.specs.Promises.{valueKind, EndMatches}
-use Rattle.guarantees.proofs.Decided.{allMasters, is-master, Mild, Reading, Inside, InsideSize, Small, Starts, Holds, Closes, Facts, Settles, NoteFacts, AllFacts, decide-facts}
+use Rattle.guarantees.proofs.Decided.{allMasters, is-master, Mild, Reading, Inside, InsideSize, Small, Heads, Starts, Holds, Closes, Facts, Settles, NoteFacts, AllFacts, decide-facts}
 use Rattle.guarantees.proofs.Ends.{knownEnd, endedBy, every-reversed}
 use Rattle.guarantees.proofs.Tied.{asStarted, parentOf, asEnd, stack, allEnded, allStarted, Linked, Tied, none-open, both-empty}
 use Rattle.guarantees.proofs.Outermost.{none-batch, batch-less, all-batch, batch-closed}
@@ -65,15 +65,16 @@ abbrev pub Ends : Bool → Given → List Started → Type 0
 Ends off Nothing starts = Unit {0}
 Ends off (Number e) starts = off ≡ false → allReach e starts ≡ true
 
-pub record ElementFacts (t : List Entry) (off : Bool) (s : List ℕ) (starts : List Started) (p o : ℕ) : Type 0 where
+pub record ElementFacts (t : List Entry) (off : Bool) (s : List ℕ) (starts : List Started) (p x o : ℕ) : Type 0 where
+  pub heads : Heads t s x
   pub offset : o ≡ p
   pub inside : Ends off (declaredEnd t p s) starts
 
 module _ (t : List Entry) (off : Bool) (s : List ℕ) (starts : List Started) (left : List ℕ) (p : ℕ) where
   abbrev pub EventFacts : Event → Type 0
-  EventFacts (event.Start x o) = (dataTypeOf t x ≡ type.Master) × ElementFacts t off s starts p o
+  EventFacts (event.Start x o) = (dataTypeOf t x ≡ type.Master) × ElementFacts t off s starts p x o
   EventFacts (event.End x o) = (dataTypeOf t x ≡ type.Master) × EndMatches starts left x o
-  EventFacts (event.Data x o v) = (valueKind v ≡ dataTypeOf t x) × ElementFacts t off s starts p o
+  EventFacts (event.Data x o v) = (valueKind v ≡ dataTypeOf t x) × ElementFacts t off s starts p x o
 
   pub record RefusalFacts (e : DecodeError) : Type 0 where
     pub not-10 : errorNumber e ≡ 10 → ⊥
@@ -268,7 +269,7 @@ module _ (t : List Entry) (d : TagDecoder) (s : List ℕ) (starts : List Started
       let is : asStarted m ≡ record { id = x; offset = d .position; end = declaredEnd t (d .position) s } = open-started x (d .position) len z ∙ ap (λ (g : Given). record { id = x; offset = d .position; end = g }) (sym (f .end)) in
       let master : isMaster (dataTypeOf t (m .id)) ≡ true = rw (open-id x (d .position) len z) (is-master _ (f .master)) in
       record {
-        promised = (f .master, record { offset = refl; inside = rw (f .end) (ends-inside z len (f .reading .none-waiting) (f .inside)) });
+        promised = (f .master, record { heads = f .heads; offset = refl; inside = rw (f .end) (ends-inside z len (f .reading .none-waiting) (f .inside)) });
         quiet = tt;
         measured = tt;
         batch = tt;
@@ -288,7 +289,7 @@ module _ (t : List Entry) (d : TagDecoder) (s : List ℕ) (starts : List Started
   unfolding withNotes
   data-called x v n near f =
       record {
-        promised = (f .kind, record { offset = refl; inside = rw (f .end) within });
+        promised = (f .kind, record { heads = f .heads; offset = refl; inside = rw (f .end) within });
         quiet = tt;
         measured = f .end;
         batch = tt;
