@@ -1,9 +1,9 @@
 -- The one induction over calls: from a fresh decoder, whatever the calls are, the record is tied to what a caller can tell, and the child-size test is
 -- on where the calls say so. Assumes nothing.
-use Prim.Native.Nat.{ℕ, _+_, _^_, _≤_, _<_}
+use Prim.Native.Nat.{ℕ, _+_}
 use mathlib.Core.Path.{_≡_, refl, sym, ap, _∙_, subst}
-use mathlib.Core.Bool.{Bool, true, false, cond, not, _&&_, true≢false, false≢true}
-use mathlib.Core.List.{List, [], _∷_, _++_, map}
+use mathlib.Core.Bool.{Bool, true, false, not, true≢false}
+use mathlib.Core.List.{List, [], _∷_, _++_}
 use native.Mathlib.Omega.{arith}
 use lib.ListN.{length}
 use Rattle.tools.specs.Bytes.{Octets}
@@ -12,28 +12,25 @@ use Rattle.table.specs.Check.{checkTable}
 use Rattle.table.specs.Table.{Entry, tableOf}
 use Rattle.table.specs.declared.types.Checked.{Checked}
 use Rattle.table.specs.declared.types.Checked.the-variants.{BadShape, Passed}
-use Rattle.table.proofs.Passed.{PassedTable, passed-gives, answered as shape-of}
-use Rattle.tag_parse.specs.Header.{readHeader}
-use Rattle.tag_parse.specs.declared.types.ReadHeader.{ReadHeader}
-use Rattle.tag_parse.specs.declared.types.ReadHeader.the-variants as header
-use Rattle.decoder_state.specs.State.{withOpen, withNotes, grown}
-use Rattle.decoder_state.specs.OneCall.{refused12, step6, step7, noted, validHeader, passes, forward, found, atPlace, scan, scanOr, tryRecover}
+use Rattle.table.proofs.Passed.{passed-gives, answered as shape-of}
+use Rattle.decoder_state.specs.OneCall.{decide, refused12}
 use Rattle.decoder_state.specs.declared.types.Check.{Check}
 use Rattle.decoder_state.specs.declared.types.Check.the-variants.{Pass, Fail}
 use Rattle.decoder_state.specs.declared.types.Given.{Given}
 use Rattle.decoder_state.specs.declared.types.Given.the-variants.{Nothing, Number}
-use Rattle.decoder_state.specs.declared.types.Note.the-variants.{NoNote}
-use Rattle.decoder_state.specs.declared.types.Recovered.{Recovered}
+use Rattle.decoder_state.specs.declared.types.Note.{Note}
+use Rattle.decoder_state.specs.declared.types.Note.the-variants.{NoNote, Settle}
 use Rattle.decoder_state.specs.declared.types.TagDecoder.{TagDecoder}
-use Rattle.decoder_decide.proofs.Judged.{pick}
-use Rattle.tag_decoder.specs.Settings.{withSettings, allowing, limitedTo}
-use Rattle.guarantees.specs.Calls.{Call, decoding, ending, recovering, allow, limit, lent, Told, answered, searched, silent, toldBy, next, impliedBy, noteOf, recordAfter, history, Lent}
+use Rattle.tag_decoder.specs.Settings.{withSettings, limitedTo}
+use Rattle.guarantees.specs.Calls.{Call, decoding, ending, recovering, allow, limit, lent, Told, answered, searched, silent, toldBy, next, impliedBy, scanNoteOr, noteOf, recordAfter, history, Lent}
 use Rattle.guarantees.specs.History.{Started, afterTold, startsOpen, leftBy, parentsLeft, takenBy, position, testAfter, childTestOn}
-use Rattle.guarantees.specs.Promises.{Runs, openAt, placeAt}
-use Rattle.guarantees.proofs.Tied.{stack, Linked, Tied, fresh-tied}
+use Rattle.guarantees.specs.Promises.{Runs}
+use Rattle.decoder_state.proofs.Kept.{opens-length}
+use Rattle.guarantees.proofs.Decided.{NoteFacts, decide-facts}
+use Rattle.guarantees.proofs.Tied.{stack, Tied, fresh-tied}
 use Rattle.guarantees.proofs.Moves.{settings-linked}
-use Rattle.guarantees.proofs.Steps.{AnswerFacts, Measured, Batch, Called, decode-called, eof-called, noted-oversized}
-use Rattle.guarantees.proofs.Recovery.{SearchFacts, Searched, recover-searched, recover-keeps}
+use Rattle.guarantees.proofs.Steps.{AnswerFacts, Measured, Batch, decode-called, eof-called}
+use Rattle.guarantees.proofs.Recovery.{SearchFacts, scan-settled, recover-searched, recover-keeps}
 
 -- ---- what the check gives
 
@@ -101,6 +98,30 @@ module _ (es ps : List ℕ) (checked : checkTable es ps ≡ Passed) (d : TagDeco
       record { promised = c .promised; tied = c .tied; measured = tt; batch = tt; test = ap not (recover-keeps es ps d s) }
   after (allow ids hierarchy oversized) byte = record { promised = tt; tied = set-tied ids hierarchy oversized (d .«max_given») (d .«max_size»); measured = tt; batch = tt; test = refl }
   after (limit n) byte = record { promised = tt; tied = limited n; measured = tt; batch = tt; test = same-test n }
+
+  -- ---- a settled record implies no parent
+
+  decided : (s : List ℕ) → Octets s → d .settled ≡ true → impliedBy ps (decide es ps d s .note) ≡ []
+  unfolding impliedBy
+  decided s byte u =
+      go (decide es ps d s .note)
+      (decide-facts es ps (good-shape es ps checked) (passed-gives es ps checked) d s byte (k .linked .masters) (opens-length d (k .linked .arrays) (k .linked .good .open-count)) (k .linked .good) .note)
+    where
+      go : (n : Note) → NoteFacts ps (tableOf es ps) d n → impliedBy ps n ≡ []
+      go NoNote f = refl
+      go (Settle path) f = absurd (true≢false (sym u ∙ f .unsettled))
+
+  pub settled-implies-none : (c : Call) → Octets (lent c) → d .settled ≡ true → impliedBy ps (noteOf es ps d c) ≡ []
+  unfolding impliedBy
+  settled-implies-none (decoding s) byte u = decided s byte u
+  settled-implies-none (ending s) byte u = decided s byte u
+  settled-implies-none (recovering s) byte u = go (refused12 es ps d (length s))
+    where
+      go : (x : Check) → impliedBy ps (scanNoteOr ps (tableOf es ps) d s x) ≡ []
+      go Pass = ap (impliedBy ps) (scan-settled ps (tableOf es ps) s d u)
+      go (Fail e) = refl
+  settled-implies-none (allow ids hierarchy oversized) byte u = refl
+  settled-implies-none (limit n) byte u = refl
 
 -- ---- any calls
 

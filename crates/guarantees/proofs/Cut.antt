@@ -1,25 +1,21 @@
 -- A record that was cut cannot look whole: where a master of known size is open and not full, the end of input does not finish, and with no byte left it
 -- answers an End that is due, or 23. Assumes nothing.
-use Prim.Native.Nat.{ℕ, zero, suc, _+_, _-_, _^_, _≤_, _<_}
-use mathlib.Core.Path.{_≡_, refl, sym, ap, _∙_, subst}
-use mathlib.Core.Bool.{Bool, true, false, cond, not, _&&_, true≢false, false≢true}
-use mathlib.Core.List.{List, [], _∷_, _++_, map}
+use Prim.Native.Nat.{ℕ, _+_, _^_}
+use mathlib.Core.Path.{_≡_, refl, sym, _∙_, subst}
+use mathlib.Core.Bool.{Bool, true, false, _&&_, true≢false, false≢true}
+use mathlib.Core.List.{List, [], _∷_}
 use native.Mathlib.Omega.{arith}
-use borrow.Author.Tests.{leb-true, le-leb, ltb-false}
-use lib.Dec.{leb, ltb, eqb}
+use borrow.Author.Tests.{leb-true, le-leb}
+use lib.Dec.{ltb, eqb}
 use lib.ListN.{length, getD, drop}
-use Rattle.tools.specs.Bytes.{Octets}
-use Rattle.table.specs.Check.{checkTable}
 use Rattle.table.specs.Lists.{every}
 use Rattle.table.specs.Shape.{goodShape}
 use Rattle.table.specs.Table.{Entry, tableOf, dataTypeOf, isMaster}
 use Rattle.table.proofs.Every.{every-member}
 use Rattle.table.proofs.Passed.{passed-gives}
-use Rattle.spec_util.specs.declared.types.OpenTag.{OpenTag}
 use Rattle.spec_util.specs.Walk.{noTag}
-use Rattle.tag_parse.specs.declared.types.EBMLSize.{EBMLSize}
-use Rattle.decoder_state.specs.State.{opens, withOpen, withWaiting, withNotes, closedTo, handedOut}
-use Rattle.decoder_state.specs.OneCall.{errorNumber, refused12, refused13, andThen, step3, plain, steps4-11, steps2-11, orRefuse, closing, decide, noted, move, apply, decode, refuse, firstIndex, isCut, cutMaster, finish, closeAll, cutOr, ended, endedOr, decodeEof}
+use Rattle.decoder_state.specs.State.{opens, withOpen, withWaiting, withNotes, closedTo}
+use Rattle.decoder_state.specs.OneCall.{refused12, refused13, step3, plain, steps4-11, steps2-11, closing, decide, move, apply, decode, refuse, firstIndex, isCut, cutMaster, cutBytes, finish, closeAll, cutOr, ended, endedOr, decodeEof}
 use Rattle.decoder_state.specs.declared.types.Action.{Action}
 use Rattle.decoder_state.specs.declared.types.Action.the-variants as act
 use Rattle.decoder_state.specs.declared.types.Answer.{Answer}
@@ -28,21 +24,22 @@ use Rattle.decoder_state.specs.declared.types.Check.{Check}
 use Rattle.decoder_state.specs.declared.types.Check.the-variants.{Pass, Fail}
 use Rattle.decoder_state.specs.declared.types.Decision.{Decision}
 use Rattle.decoder_state.specs.declared.types.Decoded.{Decoded}
+use Rattle.decoder_state.specs.declared.types.DecodeError.{DecodeError}
 use Rattle.decoder_state.specs.declared.types.DecodeError.the-variants as error
 use Rattle.decoder_state.specs.declared.types.Event.{Event}
 use Rattle.decoder_state.specs.declared.types.Event.the-variants as event
 use Rattle.decoder_state.specs.declared.types.Given.{Given}
-use Rattle.decoder_state.specs.declared.types.Given.the-variants.{Nothing, Number}
+use Rattle.decoder_state.specs.declared.types.Given.the-variants.{Number}
 use Rattle.decoder_state.specs.declared.types.TagDecoder.{TagDecoder}
 use Rattle.decoder_state.proofs.Good.{GoodState, is-good-state, every-drop}
 use Rattle.decoder_decide.proofs.Judged.{pick}
-use Rattle.guarantees.specs.Calls.{Call, ending, lent, answered, recordAfter, history, Lent}
-use Rattle.guarantees.specs.History.{Started, startsOpen, parentsLeft, position}
+use Rattle.guarantees.specs.Calls.{Call, ending, recordAfter, Lent}
+use Rattle.guarantees.specs.History.{Started, position}
 use Rattle.guarantees.specs.Promises.{Runs, Answers, openAt, placeAt, NotFull, EndOr23}
-use Rattle.guarantees.proofs.Decided.{allMasters, AllFacts, noted-masters, decide-facts}
+use Rattle.guarantees.proofs.Decided.{allMasters}
 use Rattle.guarantees.proofs.Ends.{endedBy}
-use Rattle.guarantees.proofs.Tied.{allEnded, Linked, Tied}
-use Rattle.guarantees.proofs.Steps.{Called, decode-called, eof-called}
+use Rattle.guarantees.proofs.Tied.{allEnded}
+use Rattle.guarantees.proofs.Steps.{decode-called, eof-called}
 use Rattle.guarantees.proofs.AnyCalls.{good-shape, tied-after}
 use Rattle.guarantees.proofs.Guarantees.{finish-closes}
 
@@ -65,6 +62,40 @@ unfolding Lent recordAfter
 cut-not-finished es ps cs s run n =
     let c = eof-called es ps (good-shape es ps (run .checked)) (passed-gives es ps (run .checked)) (recordAfter es ps cs) s (run .octets .0) _ _ _ (tied-after es ps (run .checked) cs (run .octets .1)) in
     (λ a. not-all-ended n (rw (finish-closes es ps cs (ending s) run a) (unfold every in refl)), is-false _ (λ f. not-all-ended n (c .closes-full f)))
+
+-- ---- the end of input asks for no more bytes
+
+abbrev NoMore : Decoded → Type 0
+NoMore r = r .answer ≡ answer.NeedMore → ⊥
+
+told-else : {A : Type 0} → _≡_ {A = ℕ} 0 1 → A
+told-else e = absurd (omega arith)
+
+finish-no-more : (d : TagDecoder) → NoMore (finish d)
+unfolding finish move
+finish-no-more d = pick NoMore (eqb (d .«open_count») 0) _ _ (λ e q. let z : _≡_ {A = ℕ} 0 1 = cc in told-else z) (λ e q. let z : _≡_ {A = ℕ} 0 1 = cc in told-else z)
+
+refuse-no-more : (e : DecodeError) (p : ℕ) (d : TagDecoder) → NoMore (refuse e p d)
+refuse-no-more e p d q = let z : _≡_ {A = ℕ} 0 1 = cc in told-else z
+
+ended-no-more : (t : List Entry) (d : TagDecoder) (s : List ℕ) → NoMore (ended t d s)
+unfolding ended closeAll
+ended-no-more t d s =
+    let i = firstIndex (isCut (d .position)) (opens d) in
+    pick NoMore (ltb 0 (length s)) (refuse (error.UnexpectedEOF (cutBytes (d .position) s)) (d .position) d) (cutOr t d i) (λ e. refuse-no-more _ _ d)
+    (λ e. pick NoMore (ltb i (d .«open_count»)) (refuse (error.UnexpectedEOF (cutMaster (getD (d .«open») i noTag))) (getD (d .«open») i noTag .«tag_start») d) (closeAll t d) (λ f. refuse-no-more _ _ d)
+    (λ f. pick NoMore (allMasters t (opens d)) (finish d) (refuse error.NotAMaster (d .position) d) (λ g. finish-no-more d) (λ g. refuse-no-more _ _ d)))
+
+eof-no-more : (t : List Entry) (s : List ℕ) (r : Decoded) (a : Answer) → r .answer ≡ a → NoMore (endedOr t s r a)
+eof-no-more t s r (answer.Event x) e q = let z : _≡_ {A = ℕ} 0 1 = cc in told-else z
+eof-no-more t s r answer.NeedMore e q = ended-no-more t (r .state) s q
+eof-no-more t s r answer.Finished e q = ended-no-more t (r .state) s q
+eof-no-more t s r (answer.Refused x) e q = let z : _≡_ {A = ℕ} 0 1 = cc in told-else z
+
+-- of any record and any table: an event, the finish or a refusal
+pub end-never-waits : (es ps : List ℕ) (d : TagDecoder) (s : List ℕ) → decodeEof es ps d s .answer ≡ answer.NeedMore → ⊥
+unfolding decodeEof
+end-never-waits es ps d s = eof-no-more (tableOf es ps) s (decode es ps d s) (decode es ps d s .answer) refl
 
 -- ---- the end of input with no byte left
 

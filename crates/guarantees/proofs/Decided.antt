@@ -1,11 +1,11 @@
 -- What is decided at a call with a checked table, read off the steps: of each refusal, of each event and of the note, what the promises need.
 -- Assumes nothing.
-use Prim.Native.Nat.{ℕ, zero, suc, _+_, _-_, _^_, _≤_, _<_}
+use Prim.Native.Nat.{ℕ, _+_, _^_, _≤_, _<_}
 use mathlib.Core.Path.{_≡_, refl, sym, ap, _∙_, subst}
-use mathlib.Core.Bool.{Bool, true, false, cond, not, _&&_, _||_, true≢false, false≢true}
-use mathlib.Core.List.{List, [], _∷_, map, List·Memᴰ, List·Memᴰ·head, List·Memᴰ·tail}
+use mathlib.Core.Bool.{Bool, true, false, not, _&&_, _||_, true≢false, false≢true}
+use mathlib.Core.List.{List, [], _∷_, map, List·Memᴰ·head, List·Memᴰ·tail}
 use native.Mathlib.Omega.{arith}
-use borrow.Author.Tests.{ltb-true, ltb-false, leb-true, le-leb, eqb-true}
+use borrow.Author.Tests.{ltb-true, ltb-false, leb-true}
 use lib.Dec.{leb, ltb, eqb}
 use lib.ListN.{length, take, drop, length-map}
 use Rattle.tools.specs.Bytes.{Octets}
@@ -20,9 +20,8 @@ use Rattle.tools.specs.declared.float.ArrToF64.the-variants as float
 use Rattle.utf8.specs.Rfc3629.{isText}
 use Rattle.table.specs.Lists.{every}
 use Rattle.table.specs.Shape.{goodShape}
-use Rattle.table.specs.Check.{onlyIds, isId}
+use Rattle.table.specs.Check.{onlyIds}
 use Rattle.table.specs.Table.{Entry, tableOf, partsOf, within, dataTypeOf, pathOf, isMaster, isTyped}
-use Rattle.table.specs.declared.types.Path.{Path}
 use Rattle.table.specs.declared.types.PathPart.{PathPart}
 use Rattle.table.specs.declared.types.PathPart.the-variants.{Id, Global}
 use Rattle.table.specs.declared.types.TagDataType.{TagDataType}
@@ -33,7 +32,6 @@ use Rattle.table.proofs.Shaped.{at-most-16}
 use Rattle.table.proofs.Passed.{PassedTable}
 use Rattle.table.proofs.Consequences.{master-of-ids, path-masters}
 use Rattle.spec_util.specs.declared.types.OpenTag.{OpenTag}
-use Rattle.spec_util.specs.Walk.{validateTagPath}
 use Rattle.tag_parse.proofs.Headers.{header-sound, header-spec, known-small}
 use Rattle.tag_parse.specs.Header.{readHeader}
 use Rattle.tag_parse.specs.Payload.{readData, unsignedOr22, integerOr22, floatOr21}
@@ -57,14 +55,13 @@ use Rattle.decoder_state.specs.declared.types.Check.the-variants.{Pass, Fail}
 use Rattle.decoder_state.specs.declared.types.Decision.{Decision}
 use Rattle.decoder_state.specs.declared.types.DecodeError.{DecodeError}
 use Rattle.decoder_state.specs.declared.types.DecodeError.the-variants as error
-use Rattle.decoder_state.specs.declared.types.Given.{Given}
-use Rattle.decoder_state.specs.declared.types.Given.the-variants.{Nothing, Number}
+use Rattle.decoder_state.specs.declared.types.Given.the-variants.{Number}
 use Rattle.decoder_state.specs.declared.types.Note.{Note}
 use Rattle.decoder_state.specs.declared.types.Note.the-variants.{NoNote, Settle}
 use Rattle.decoder_state.specs.declared.types.TagDecoder.{TagDecoder}
 use Rattle.decoder_state.proofs.Good.{GoodState, is-good-state, every-drop, and-both}
 use Rattle.decoder_state.proofs.Kept.{settled-opens, settled-count}
-use Rattle.decoder_decide.proofs.Judged.{pick, cond-yes, cond-no}
+use Rattle.decoder_decide.proofs.Judged.{pick}
 use Rattle.guarantees.specs.History.{declaredEnd, headerEnd, endAfter}
 use Rattle.guarantees.specs.Promises.{valueKind}
 use Rattle.guarantees.proofs.Ends.{FullBatch, step3-batch, step10-batch}

@@ -1,14 +1,14 @@
 -- Which masters close together: the outermost of them that is of known size is full. Closing by position (3) begins at one that is full, and closing by
 -- the next ID (10) takes masters of unknown size alone. Assumes nothing.
-use Prim.Native.Nat.{ℕ, zero, suc, _+_, _-_, _≤_, _<_}
+use Prim.Native.Nat.{ℕ, suc, _+_, _-_, _≤_, _<_}
 use mathlib.Core.Path.{_≡_, refl, sym, ap, _∙_, subst}
 use mathlib.Core.Bool.{Bool, true, false, cond, not, _&&_, false≢true}
-use mathlib.Core.List.{List, [], _∷_, _++_, reverse, reverse-append, reverse-reverse, reverse-cons}
+use mathlib.Core.List.{List, [], _∷_, reverse, reverse-append, reverse-reverse, reverse-cons}
 use native.Mathlib.Numerals.{add-one}
 use native.Mathlib.Omega.{arith}
-use lib.Dec.{leb, ltb}
+use lib.Dec.{leb}
 use lib.ListN.{length, take, drop, length-drop, length-reverse, take-append-drop}
-use lib.Seq.{take-at, drop-at}
+use lib.Seq.{take-at}
 use Rattle.table.specs.Lists.{every}
 use Rattle.table.specs.Table.{Entry}
 use Rattle.spec_util.specs.Ended.{isEndedBy}

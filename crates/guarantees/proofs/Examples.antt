@@ -1,9 +1,9 @@
 -- Document 01's D1, D2 and D5 as histories: what a caller can tell from the calls and their answers, computed. Assumes nothing.
 use Prim.Native.Nat.{ℕ}
 use mathlib.Core.Path.{_≡_, refl}
-use mathlib.Core.List.{List, [], _∷_, _++_, map, reverse}
+use mathlib.Core.List.{List, [], _∷_}
 use lib.Count.{leadingZeros}
-use lib.ListN.{length, take, drop, set, replicate}
+use lib.ListN.{drop}
 use lib.Ieee.{nanBits, toBits, ofBits}
 use Rattle.tools.specs.Bytes.{beFrom}
 use Rattle.tools.specs.Vint.{readVint}
@@ -16,10 +16,10 @@ use Rattle.table.specs.Shape.{goodPart, goodParts, goodEntry, goodEntries, good
 use Rattle.table.specs.Check.{onlyIds}
 use Rattle.table.specs.Table.{Entry, threes, fours, boundOf, partOf, sameBound, samePart, samePath, kindOf, isMaster, isTyped, clipped, entryOf, tableOf, entryFor}
 use Rattle.spec_util.specs.Ended.{isIdOf, hasId, isParent, isSibling, isTypedRoot, isEndedBy}
-use Rattle.spec_util.specs.Walk.{noTag, overMax, underMin, isIdAt, walkGlobal, walkAt, walkPart, unknownAndEnded, walkMaster, minMet, walkEnd, goOn, walkFrom, validateTagPath}
+use Rattle.spec_util.specs.Walk.{overMax, underMin, isIdAt, walkGlobal, walkAt, walkPart, unknownAndEnded, walkMaster, minMet, walkEnd, goOn, walkFrom, validateTagPath}
 use Rattle.tag_parse.specs.Header.{readTagId, sizeOf, tooLong, sizedBy, sized, afterId, readHeader}
 use Rattle.tag_parse.specs.Payload.{readData}
-use Rattle.decoder_state.specs.State.{noEnd, fresh, endFor, withOpen, withWaiting, withNotes, settledTo, opened, closedTo, handedOut, grownBy, grown}
+use Rattle.decoder_state.specs.State.{endFor, withOpen, withWaiting, withNotes, settledTo, opened, closedTo, handedOut, grownBy, grown}
 use Rattle.decoder_state.specs.OneCall.{goodOpen, goodState, refused12, refused13, isDone, firstIndex, closing, noted, step8, reaches, step9, validHeader, endedTops, element, elementOf, step11, steps10-11, steps8-11, steps6-11, step5, steps4-11, steps2-11, decide, move, apply, cutBytes, isCut, finish, closeAll, ended, decodeEof, atPlace, scan, tryRecover}
 use Rattle.decoder_state.specs.declared.types.Given.the-variants.{Nothing, Number}
 use Rattle.decoder_state.proofs.Starred.{entries, parts}

@@ -1,18 +1,14 @@
 -- Demand 3: what a checked table guarantees over any calls. Each theorem speaks of the last of any calls on a fresh decoder, so of each call of any run.
 -- What is told are the answers of the very definitions that the contracts of the routines cite. Assumes nothing.
-use Prim.Native.Nat.{ℕ, _+_, _^_, _≤_, _<_}
+use Prim.Native.Nat.{ℕ, _+_, _≤_}
 use mathlib.Core.Path.{_≡_, refl, sym, ap, _∙_, subst}
-use mathlib.Core.Bool.{Bool, true, false, not, _&&_, true≢false, false≢true}
-use mathlib.Core.List.{List, [], _∷_, _++_, map, reverse, List·Memᴰ}
+use mathlib.Core.Bool.{Bool, true, false, not, false≢true}
+use mathlib.Core.List.{List, [], _∷_, map, reverse}
 use native.Mathlib.Omega.{arith}
 use borrow.Author.Tests.{leb-true, eqb-true}
-use lib.Dec.{leb, eqb}
+use lib.Dec.{eqb}
 use lib.ListN.{length, length-append, length-map, length-reverse}
-use Rattle.table.specs.Check.{checkTable}
-use Rattle.table.specs.Lists.{every}
 use Rattle.table.specs.Table.{Entry, tableOf, dataTypeOf}
-use Rattle.table.specs.declared.types.Checked.the-variants.{Passed}
-use Rattle.table.specs.declared.types.TagDataType.the-variants as type
 use Rattle.table.proofs.Every.{every-member}
 use Rattle.tag_parse.specs.Header.{readHeader}
 use Rattle.tag_parse.specs.declared.types.ReadHeader.the-variants as header
@@ -20,25 +16,23 @@ use Rattle.tag_parse.specs.declared.types.TagHeader.{TagHeader}
 use Rattle.tag_parse.specs.declared.types.TagValue.{TagValue}
 use Rattle.decoder_state.specs.State.{opens}
 use Rattle.decoder_state.specs.OneCall.{errorNumber}
-use Rattle.decoder_state.specs.declared.types.Answer.{Answer}
 use Rattle.decoder_state.specs.declared.types.Answer.the-variants as answer
 use Rattle.decoder_state.specs.declared.types.DecodeError.{DecodeError}
 use Rattle.decoder_state.specs.declared.types.Event.{Event}
 use Rattle.decoder_state.specs.declared.types.Event.the-variants as event
 use Rattle.decoder_state.specs.declared.types.Given.{Given}
-use Rattle.decoder_state.specs.declared.types.Given.the-variants.{Nothing, Number}
+use Rattle.decoder_state.specs.declared.types.Given.the-variants.{Number}
 use Rattle.decoder_state.specs.declared.types.Search.the-variants as search
 use Rattle.decoder_state.specs.declared.types.TagDecoder.{TagDecoder}
 use Rattle.decoder_state.proofs.Good.{both}
 use Rattle.decoder_state.proofs.Kept.{opens-length, waits-length}
 use Rattle.tag_decoder.specs.Settings.{isFinished}
-use Rattle.guarantees.specs.Calls.{Call, decoding, ending, recovering, allow, limit, lent, Told, answered, searched, silent, toldBy, recordAfter, history, Lent}
+use Rattle.guarantees.specs.Calls.{Call, decoding, ending, recovering, allow, limit, lent, Told, answered, searched, silent, toldBy, impliedBy, noteOf, recordAfter, history, Lent}
 use Rattle.guarantees.specs.History.{Started, declaredEnd, afterTold, afterDeclared, startsOpen, startsDeclared, parentsLeft, position, testAfter, childTestOn, childTestNeverOff, isNoRecovery, neverRecovered}
-use Rattle.guarantees.specs.Promises.{answerRefusal, refusalOf, eventKind, eventId, elementOffset, Runs, lastTold, Answers, openAt, leftAt, placeAt, EndMatches, EndsInside, NotFull}
-use Rattle.guarantees.proofs.Tied.{parentOf, asEnd, asStarted, stack, Linked, Tied}
-use Rattle.guarantees.proofs.Steps.{reachesTo, allReach, Ends, ElementFacts, EventFacts, RefusalFacts, AnswerFacts, no-starts}
-use Rattle.guarantees.proofs.Recovery.{SearchFacts}
-use Rattle.guarantees.proofs.AnyCalls.{ToldFacts, MeasuredTold, After, tied-after, promised-after, test-after}
+use Rattle.guarantees.specs.Promises.{refusalOf, eventKind, eventId, elementOffset, Runs, lastTold, Answers, openAt, leftAt, placeAt, EndMatches, EndsInside}
+use Rattle.guarantees.proofs.Tied.{parentOf, asEnd, asStarted, stack, Tied, none-open}
+use Rattle.guarantees.proofs.Steps.{reachesTo, allReach, Ends, ElementFacts, EventFacts, RefusalFacts, no-starts}
+use Rattle.guarantees.proofs.AnyCalls.{ToldFacts, MeasuredTold, settled-implies-none, tied-after, promised-after, test-after}
 
 -- ---- the refusals
 
@@ -140,6 +134,18 @@ module _ (es ps : List ℕ) (cs : List Call) (c : Call) (run : Runs es ps (c ∷
   -- root. (Start and its End also agree in offset; an implied parent's is 0.)"
   pub end-matches : (x o : ℕ) → Answers es ps cs c (answer.Event (event.End x o)) → EndMatches (openAt es ps cs) (leftAt es ps cs c) x o
   end-matches x o a = facts _ (a .1) .1
+
+  -- parents are implied only where no Start is open and no parent is left, so before all Starts
+  pub implied-first : (impliedBy ps (noteOf es ps (recordAfter es ps cs) c) ≡ [] → ⊥) → (openAt es ps cs ≡ []) × (parentsLeft (tableOf es ps) (history es ps cs) ≡ [])
+  unfolding Lent
+  implied-first some = go (recordAfter es ps cs .settled) refl
+    where
+      k : Tied (tableOf es ps) (recordAfter es ps cs) (openAt es ps cs) (parentsLeft (tableOf es ps) (history es ps cs)) (placeAt es ps cs)
+      k = tied-after es ps (run .checked) cs (run .octets .1)
+
+      go : (b : Bool) → recordAfter es ps cs .settled ≡ b → (openAt es ps cs ≡ []) × (parentsLeft (tableOf es ps) (history es ps cs) ≡ [])
+      go true u = absurd (some (settled-implies-none es ps (run .checked) (recordAfter es ps cs) (openAt es ps cs) (parentsLeft (tableOf es ps) (history es ps cs)) (placeAt es ps cs) k c (run .octets .0) u))
+      go false u = none-open (openAt es ps cs) (parentsLeft (tableOf es ps) (history es ps cs)) (k .linked .unsettled u)
 
   -- and the offset of a Start or a Data is the position, the count of all bytes taken before it
   pub offset-is-position : (e : Event) (o : ℕ) → elementOffset e ≡ Number o → Answers es ps cs c (answer.Event e) → o ≡ placeAt es ps cs

@@ -1,40 +1,33 @@
 -- Each move of the record keeps what ties it to what a caller can tell. Assumes nothing.
-use Prim.Native.Nat.{ℕ, zero, suc, _+_, _-_, _^_, _≤_, _<_}
-use mathlib.Core.Path.{_≡_, refl, sym, ap, _∙_, subst}
-use mathlib.Core.Bool.{Bool, true, false, cond, not, _&&_, _||_, true≢false, false≢true}
-use mathlib.Core.List.{List, [], _∷_, _++_, map, reverse, append-assoc, append-nil, map-append, map-map, reverse-append, reverse-cons}
-use native.Mathlib.Numerals.{add-one}
+use Prim.Native.Nat.{ℕ, suc, _+_, _-_, _^_, _≤_, _<_}
+use mathlib.Core.Path.{_≡_, refl, sym, ap, _∙_}
+use mathlib.Core.Bool.{Bool, true, false, true≢false}
+use mathlib.Core.List.{List, [], _∷_, _++_, map, reverse, append-nil, map-append, map-map, reverse-append, reverse-cons}
 use native.Mathlib.Omega.{arith}
-use borrow.Author.Tests.{leb-true, le-leb}
-use lib.Dec.{leb, ltb, eqb}
-use lib.ListN.{length, getD, take, drop, length-append, length-map, length-reverse, take-append-drop}
+use lib.ListN.{length, getD, take, drop, length-map, length-reverse, take-append-drop}
 use lib.Seq.{getD-take, take-suc, drop-append-le, length-take-le}
 use Rattle.table.specs.Lists.{every}
-use Rattle.table.specs.Table.{Entry, partsOf, within, dataTypeOf, isMaster}
+use Rattle.table.specs.Table.{Entry, dataTypeOf, isMaster}
 use Rattle.table.specs.declared.types.PathPart.{PathPart}
 use Rattle.table.specs.declared.types.PathPart.the-variants.{Id, Global}
-use Rattle.table.specs.declared.types.TagDataType.the-variants as type
 use Rattle.spec_util.specs.declared.types.OpenTag.{OpenTag}
 use Rattle.spec_util.specs.Walk.{noTag}
-use Rattle.tag_parse.specs.declared.types.EBMLSize.{EBMLSize}
-use Rattle.tag_parse.specs.declared.types.EBMLSize.the-variants.{Known, Unknown}
-use Rattle.decoder_state.specs.State.{opens, endOf, endFor, noEnd, fresh, implied, withOpen, withWaiting, withNotes, atPosition, settledTo, opened, closedTo, handedOut, grownBy, grown}
-use Rattle.decoder_state.specs.OneCall.{goodOpen, openTag}
+use Rattle.decoder_state.specs.State.{opens, endOf, endFor, noEnd, implied, withOpen, withWaiting, withNotes, settledTo, opened, closedTo, handedOut, grownBy, grown}
+use Rattle.decoder_state.specs.OneCall.{goodOpen}
 use Rattle.decoder_state.specs.declared.types.Given.{Given}
-use Rattle.decoder_state.specs.declared.types.Given.the-variants.{Nothing, Number}
+use Rattle.decoder_state.specs.declared.types.Given.the-variants.{Number}
 use Rattle.decoder_state.specs.declared.types.WaitingEnd.{WaitingEnd}
 use Rattle.decoder_state.specs.declared.types.TagDecoder.{TagDecoder}
-use Rattle.decoder_state.proofs.Good.{GoodState, GoodOpen, every-append, every-take, every-map, and-both, both, is-good-open}
-use Rattle.decoder_state.proofs.Kept.{waits, Arrays, opens-length, waits-length, with-notes-arrays, settled-opens, settled-arrays, settled-waits, opened-opens, opened-arrays, opened-waits, closed-opens, closed-waits, closed-arrays, handed-opens, handed-waits, handed-arrays, grown-opens, grown-arrays, grown-waits, with-notes-opens}
-use Rattle.decoder_state.proofs.Stays.{with-notes-good, settled-good, opened-good, closed-good, handed-good, grown-good}
+use Rattle.decoder_state.proofs.Good.{GoodState, every-append, every-take, every-map, and-both, both}
+use Rattle.decoder_state.proofs.Kept.{waits, opens-length, waits-length, with-notes-arrays, settled-opens, settled-arrays, opened-opens, opened-arrays, closed-opens, closed-waits, closed-arrays, handed-waits, handed-arrays, grown-opens, grown-arrays}
+use Rattle.decoder_state.proofs.Stays.{with-notes-good, settled-good, opened-good, closed-good, handed-good}
 use Rattle.decoder_decide.proofs.Judged.{pick}
 use Rattle.tag_decoder.specs.Settings.{withSettings}
-use Rattle.guarantees.specs.Calls.{impliedBy}
-use Rattle.guarantees.specs.History.{Started, laterEnd, later, leftByEnd, endAfter}
+use Rattle.guarantees.specs.History.{Started, laterEnd, later, leftByEnd}
 use Rattle.guarantees.specs.Promises.{EndMatches}
-use Rattle.guarantees.proofs.Decided.{allMasters, is-master, Small}
+use Rattle.guarantees.proofs.Decided.{allMasters}
 use Rattle.guarantees.proofs.Ends.{knownEnd, every-reversed}
-use Rattle.guarantees.proofs.Tied.{asStarted, parentOf, asEnd, stack, allEnded, allStarted, Linked, map-same, popped, none-open, both-empty}
+use Rattle.guarantees.proofs.Tied.{asStarted, parentOf, asEnd, stack, allStarted, Linked, map-same, popped, none-open, both-empty}
 
 -- ---- settings, and the position
 

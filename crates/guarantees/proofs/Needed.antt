@@ -1,9 +1,8 @@
 -- The checked table is needed: small tables that the check refuses, and runs with them in which a promise fails, computed. Assumes nothing.
 use Prim.Native.Nat.{ℕ}
 use mathlib.Core.Path.{_≡_, refl}
-use mathlib.Core.List.{List, [], _∷_, _++_, map, reverse}
+use mathlib.Core.List.{List, [], _∷_}
 use lib.Count.{leadingZeros}
-use lib.ListN.{length, take, drop, set, replicate}
 use lib.Ieee.{nanBits, toBits, ofBits}
 use Rattle.tools.specs.Bytes.{beFrom}
 use Rattle.tools.specs.Vint.{readVint, isVint}
@@ -14,16 +13,16 @@ use Rattle.utf8.specs.Rfc3629.{fits, rows, firstFit, textAfter}
 use Rattle.table.specs.Lists.{every, any}
 use Rattle.table.specs.Shape.{goodPart, goodParts, goodEntry, goodEntries, goodShape}
 use Rattle.table.specs.Check.{allowedId, listed, onlyIds, masterOfIds, masterOrGlobal, allMasters, ownPaths, keeps, firstBroken, faultOr, checkFrom, checkTable}
-use Rattle.table.specs.Table.{Entry, threes, fours, boundOf, partOf, sameBound, samePart, samePath, kindOf, isMaster, isTyped, clipped, entryOf, tableOf, entryFor}
+use Rattle.table.specs.Table.{threes, fours, boundOf, partOf, sameBound, samePart, samePath, kindOf, isMaster, isTyped, clipped, entryOf, tableOf, entryFor}
 use Rattle.spec_util.specs.Ended.{isIdOf, hasId, isParent, isSibling, isTypedRoot, isEndedBy}
-use Rattle.spec_util.specs.Walk.{noTag, overMax, underMin, isIdAt, walkGlobal, walkAt, walkPart, unknownAndEnded, walkMaster, minMet, walkEnd, goOn, walkFrom, validateTagPath}
+use Rattle.spec_util.specs.Walk.{overMax, underMin, isIdAt, walkGlobal, walkAt, walkPart, unknownAndEnded, walkMaster, minMet, walkEnd, goOn, walkFrom, validateTagPath}
 use Rattle.tag_parse.specs.Header.{readTagId, sizeOf, tooLong, sizedBy, sized, afterId, readHeader}
 use Rattle.tag_parse.specs.Payload.{readData}
-use Rattle.decoder_state.specs.State.{noEnd, fresh, endFor, withOpen, withWaiting, withNotes, settledTo, opened, closedTo, handedOut, grownBy, grown}
+use Rattle.decoder_state.specs.State.{endFor, withOpen, withWaiting, withNotes, settledTo, opened, closedTo, handedOut, grownBy, grown}
 use Rattle.decoder_state.specs.OneCall.{goodOpen, goodState, refused12, refused13, isDone, firstIndex, closing, noted, step8, reaches, step9, validHeader, endedTops, element, elementOf, step11, steps10-11, steps8-11, steps6-11, step5, steps4-11, steps2-11, decide, move, apply, cutBytes, isCut, finish, closeAll, ended, decodeEof, atPlace, scan, tryRecover}
-use Rattle.decoder_state.specs.declared.types.Given.the-variants.{Nothing, Number}
+use Rattle.decoder_state.specs.declared.types.Given.the-variants.{Nothing}
 use Rattle.guarantees.specs.Calls.{Call, decoding, ending, recordAfter, history, impliedBy, placeNote, scanNote}
-use Rattle.guarantees.specs.History.{Started, declaredEnd, later, startsOpen, parentsLeft, position}
+use Rattle.guarantees.specs.History.{declaredEnd, later, startsOpen, parentsLeft, position}
 use Rattle.table.specs.declared.types.Rule.the-variants.{GlobalInMaster, NoMaster}
 use Rattle.table.specs.declared.types.Checked.the-variants.{Fault}
 use Rattle.decoder_state.specs.declared.types.Answer.the-variants.{Event, Finished, Refused}
@@ -31,7 +30,7 @@ use Rattle.decoder_state.specs.declared.types.DecodeError.the-variants.{NotAMas
 use Rattle.decoder_state.specs.declared.types.Event.the-variants.{Start, End, Data}
 use Rattle.tag_parse.specs.declared.types.TagValue.the-variants.{UnsignedInt}
 use Rattle.guarantees.specs.Promises.{lastTold, openAt}
-use Rattle.guarantees.specs.Calls.{Told, answered}
+use Rattle.guarantees.specs.Calls.{answered}
 
 -- ---- rule 34: a path names an ID that is no Master
 

@@ -1,15 +1,13 @@
 -- Where the child-size test was never off, the known ends of the Starts that are open are nested, so that where one of them is not full the outermost is
 -- not full. Assumes nothing.
-use Prim.Native.Nat.{ℕ, _+_, _≤_, _<_}
+use Prim.Native.Nat.{ℕ, _+_, _<_}
 use mathlib.Core.Path.{_≡_, refl, sym, ap, _∙_, subst}
-use mathlib.Core.Bool.{Bool, true, false, not, _&&_, false≢true}
-use mathlib.Core.List.{List, [], _∷_, _++_, map, List·Memᴰ, List·Memᴰ·cases-cons, List·Memᴰ·not-nil}
+use mathlib.Core.Bool.{Bool, true, false}
+use mathlib.Core.List.{List, [], _∷_, map, List·Memᴰ·cases-cons, List·Memᴰ·not-nil}
 use mathlib.Core.Logic.{⊎-elim}
 use native.Mathlib.Omega.{arith}
 use borrow.Author.Tests.{leb-true, le-leb}
-use lib.Dec.{leb}
 use lib.ListN.{drop}
-use Rattle.table.specs.Check.{checkTable}
 use Rattle.table.specs.Lists.{every}
 use Rattle.table.specs.Table.{Entry, tableOf}
 use Rattle.decoder_state.specs.declared.types.Answer.the-variants as answer
@@ -21,8 +19,8 @@ use Rattle.decoder_state.proofs.Good.{both, every-map}
 use Rattle.guarantees.specs.Calls.{Call, lent, Told, answered, searched, silent, toldBy, recordAfter, history, Lent}
 use Rattle.guarantees.specs.History.{Started, laterEnd, later, declaredEnd, afterTold, firstEnd, outermostEnd, startsOpen, testAfter, childTestNeverOff}
 use Rattle.guarantees.specs.Promises.{Runs, openAt, leftAt, placeAt, NotFull}
-use Rattle.guarantees.proofs.Steps.{reachesTo, allReach, Ends, ElementFacts}
-use Rattle.guarantees.proofs.AnyCalls.{ToldFacts, After, promised-after, test-after}
+use Rattle.guarantees.proofs.Steps.{reachesTo, allReach, Ends}
+use Rattle.guarantees.proofs.AnyCalls.{ToldFacts, promised-after, test-after}
 use Rattle.guarantees.proofs.Guarantees.{never-off-on, not-false}
 
 -- a master of this end ends inside all of these

@@ -1,21 +1,20 @@
 -- The dietitian's night: a record that was cut does not look whole, however often the end of input is asked for. The outermost Start of known size that is
 -- open has its End only where it is full, so that one which is not full stays open, and after the Ends that are due comes 23. Assumes nothing.
-use Prim.Native.Nat.{ℕ, zero, suc, _+_, _-_, _≤_, _<_}
-use mathlib.Core.Path.{_≡_, refl, sym, ap, _∙_, subst}
-use mathlib.Core.Bool.{Bool, true, false, not, _&&_, true≢false, false≢true}
-use mathlib.Core.List.{List, [], _∷_, _++_, map, List·Memᴰ, List·Memᴰ·head, List·Memᴰ·tail}
+use Prim.Native.Nat.{ℕ, zero, suc, _+_, _≤_, _<_}
+use mathlib.Core.Path.{_≡_, refl, ap, _∙_, subst}
+use mathlib.Core.Bool.{Bool, true, false, _&&_, false≢true}
+use mathlib.Core.List.{List, [], _∷_, map, List·Memᴰ·head, List·Memᴰ·tail}
 use native.Mathlib.Numerals.{add-one}
 use native.Mathlib.Omega.{arith}
-use borrow.Author.Tests.{leb-true, le-leb}
-use lib.Dec.{leb, ltb, eqb}
-use lib.ListN.{length, getD, take, drop, length-append, length-map}
+use borrow.Author.Tests.{leb-true}
+use lib.Dec.{ltb, eqb}
+use lib.ListN.{length, getD, take, drop}
 use Rattle.tools.specs.Bytes.{Octets}
-use Rattle.table.specs.Check.{checkTable}
 use Rattle.table.specs.Lists.{every}
 use Rattle.table.specs.Table.{Entry, tableOf, dataTypeOf, isMaster}
 use Rattle.spec_util.specs.Walk.{noTag}
 use Rattle.decoder_state.specs.State.{opens}
-use Rattle.decoder_state.specs.OneCall.{errorNumber, decide, decode, firstIndex, isCut, refuse, cutMaster, finish, closeAll, move, ended, endedOr, decodeEof}
+use Rattle.decoder_state.specs.OneCall.{decode, firstIndex, isCut, refuse, cutMaster, finish, closeAll, move, ended, endedOr, decodeEof}
 use Rattle.decoder_state.specs.declared.types.Answer.{Answer}
 use Rattle.decoder_state.specs.declared.types.Answer.the-variants as answer
 use Rattle.decoder_state.specs.declared.types.Decoded.{Decoded}
@@ -28,8 +27,8 @@ use Rattle.decoder_state.specs.declared.types.TagDecoder.{TagDecoder}
 use Rattle.decoder_state.proofs.Good.{both, and-both, every-append, every-take}
 use Rattle.decoder_decide.proofs.Judged.{pick}
 use Rattle.tag_decoder.proofs.Told.{takes-within}
-use Rattle.guarantees.specs.Calls.{Call, ending, lent, Told, answered, toldBy, next, recordAfter, history, Lent}
-use Rattle.guarantees.specs.History.{Started, afterAnswer, firstEnd, outermostEnd, startsOpen, parentsLeft, leftByEnd, position, childTestNeverOff}
+use Rattle.guarantees.specs.Calls.{Call, ending, Told, answered, next, recordAfter, history, Lent}
+use Rattle.guarantees.specs.History.{Started, afterAnswer, firstEnd, outermostEnd, startsOpen, position, childTestNeverOff}
 use Rattle.guarantees.specs.Promises.{answerRefusal, Runs, lastTold, Answers, openAt, leftAt, placeAt, NotFull, EndOr23, endingAgain, atTheEnd}
 use Rattle.guarantees.proofs.Ends.{endedBy}
 use Rattle.guarantees.proofs.Tied.{parentOf, stack}

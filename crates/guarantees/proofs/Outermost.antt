@@ -1,13 +1,12 @@
 -- The outermost Start of known size of a list: what becomes of it as Ends are handed out, as masters close, and as a recovery passes over bytes.
 -- Assumes nothing.
-use Prim.Native.Nat.{ℕ, zero, suc, _+_, _-_, _≤_, _<_}
-use mathlib.Core.Path.{_≡_, refl, sym, ap, _∙_, subst}
-use mathlib.Core.Bool.{Bool, true, false, _&&_}
+use Prim.Native.Nat.{ℕ, zero, suc, _+_, _-_}
+use mathlib.Core.Path.{_≡_, refl, sym, ap, _∙_}
+use mathlib.Core.Bool.{Bool, true}
 use mathlib.Core.List.{List, [], _∷_, _++_, map, reverse, reverse-cons, map-append}
 use native.Mathlib.Numerals.{add-one}
 use native.Mathlib.Omega.{arith}
 use borrow.Author.Tests.{leb-true, le-leb}
-use lib.Dec.{leb}
 use lib.ListN.{length, take, drop}
 use lib.Seq.{take-nil}
 use Rattle.table.specs.Lists.{every}
@@ -16,7 +15,7 @@ use Rattle.decoder_state.specs.State.{opens, endOf}
 use Rattle.decoder_state.specs.declared.types.Given.{Given}
 use Rattle.decoder_state.specs.declared.types.Given.the-variants.{Nothing, Number}
 use Rattle.decoder_state.specs.declared.types.TagDecoder.{TagDecoder}
-use Rattle.decoder_state.proofs.Good.{both, and-both, every-append, every-take}
+use Rattle.decoder_state.proofs.Good.{both, every-append, every-take}
 use Rattle.guarantees.specs.History.{Started, laterEnd, later, firstEnd, outermostEnd, leftByEnd}
 use Rattle.guarantees.proofs.Ends.{knownEnd, endedBy, firstKnown, FullBatch, take-reversed}
 use Rattle.guarantees.proofs.Tied.{asStarted, parentOf, stack, allEnded}

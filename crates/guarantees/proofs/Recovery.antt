@@ -1,8 +1,8 @@
 -- A recovery: where it stops, the invariant holds, with the open ends grown where it found a header; its only refusal is 12. Assumes nothing.
-use Prim.Native.Nat.{ℕ, zero, suc, _+_, _-_, _^_, _≤_, _<_}
-use mathlib.Core.Path.{_≡_, refl, sym, ap, _∙_, subst}
-use mathlib.Core.Bool.{Bool, true, false, cond, not, _&&_, _||_, true≢false, false≢true}
-use mathlib.Core.List.{List, [], _∷_, _++_, map, reverse}
+use Prim.Native.Nat.{ℕ, suc, _+_, _-_, _^_, _≤_}
+use mathlib.Core.Path.{_≡_, refl, sym, _∙_, subst}
+use mathlib.Core.Bool.{Bool, true, false, cond, not, _&&_, false≢true}
+use mathlib.Core.List.{List, [], _∷_, _++_, map}
 use native.Mathlib.Omega.{arith}
 use borrow.Author.Tests.{leb-true, le-leb}
 use lib.Dec.{leb}
@@ -13,16 +13,14 @@ use Rattle.table.specs.Table.{Entry, tableOf, partsOf, within, isTyped}
 use Rattle.table.specs.Check.{onlyIds}
 use Rattle.table.specs.declared.types.PathPart.{PathPart}
 use Rattle.table.proofs.Passed.{PassedTable}
-use Rattle.spec_util.specs.declared.types.OpenTag.{OpenTag}
 use Rattle.tag_parse.specs.Header.{readHeader}
 use Rattle.tag_parse.specs.declared.types.ReadHeader.{ReadHeader}
 use Rattle.tag_parse.specs.declared.types.ReadHeader.the-variants as header
 use Rattle.tag_parse.specs.declared.types.TagHeader.{TagHeader}
-use Rattle.decoder_state.specs.State.{opens, implied, withOpen, withNotes, atPosition, settledTo, grownBy, grown}
-use Rattle.decoder_state.specs.OneCall.{errorNumber, goodOpen, refused12, step6, settles, step7, noted, validHeader, passes, forward, recovered, found, atPlace, scan, scanOr, tryRecover}
+use Rattle.decoder_state.specs.State.{opens, implied, withOpen, withNotes, settledTo, grown}
+use Rattle.decoder_state.specs.OneCall.{errorNumber, goodOpen, refused12, step6, step7, noted, validHeader, passes, forward, recovered, found, atPlace, scan, scanOr, tryRecover}
 use Rattle.decoder_state.specs.declared.types.Check.{Check}
 use Rattle.decoder_state.specs.declared.types.Check.the-variants.{Pass, Fail}
-use Rattle.decoder_state.specs.declared.types.DecodeError.{DecodeError}
 use Rattle.decoder_state.specs.declared.types.DecodeError.the-variants as error
 use Rattle.decoder_state.specs.declared.types.Given.{Given}
 use Rattle.decoder_state.specs.declared.types.Given.the-variants.{Nothing, Number}
@@ -37,7 +35,7 @@ use Rattle.decoder_state.proofs.Kept.{settled-opens}
 use Rattle.decoder_state.proofs.Stays.{implied-good, grown-good}
 use Rattle.decoder_decide.proofs.Judged.{pick, passed12}
 use Rattle.guarantees.specs.Calls.{impliedBy, orElse, placeNote, scanNote, scanNoteOr}
-use Rattle.guarantees.specs.History.{Started, laterEnd, later, outermostEnd, afterSearch}
+use Rattle.guarantees.specs.History.{Started, later, outermostEnd, afterSearch}
 use Rattle.guarantees.proofs.Decided.{NoteFacts, step7-facts}
 use Rattle.guarantees.proofs.Ends.{endedBy}
 use Rattle.guarantees.proofs.Tied.{stack, allEnded, Linked, Tied}
@@ -167,7 +165,7 @@ place-settled ps t e (header.Header x) on u h =
     (λ f. pick (λ (n : Note). n ≡ NoNote) (passes (validHeader t e x)) NoNote (on (forward e)) (λ g. refl) (λ g. h (forward e) u))
     (λ f. h (forward e) u))
 
-scan-settled : (ps : List ℕ) (t : List Entry) (s : List ℕ) (e : TagDecoder) → e .settled ≡ true → scanNote ps t e s ≡ NoNote
+pub scan-settled : (ps : List ℕ) (t : List Entry) (s : List ℕ) (e : TagDecoder) → e .settled ≡ true → scanNote ps t e s ≡ NoNote
 unfolding scanNote
 scan-settled ps t [] e u = refl
 scan-settled ps t (b ∷ s) e u = place-settled ps t e (readHeader t (b ∷ s)) (λ later. scanNote ps t later s) u (λ x f. scan-settled ps t s x f)

@@ -1,10 +1,10 @@
 -- One call: the promises of its answer, and the invariant after it. Assumes nothing.
-use Prim.Native.Nat.{ℕ, zero, suc, _+_, _-_, _^_, _≤_, _<_}
+use Prim.Native.Nat.{ℕ, suc, _+_, _-_, _^_, _≤_, _<_}
 use mathlib.Core.Path.{_≡_, refl, sym, ap, _∙_, subst}
 use mathlib.Core.Bool.{Bool, true, false, cond, not, _&&_, _||_, true≢false, false≢true}
 use mathlib.Core.List.{List, [], _∷_, _++_, map, reverse}
 use native.Mathlib.Omega.{arith}
-use borrow.Author.Tests.{ltb-true, ltb-false, leb-true, leb-false, le-leb, lt-ltb, eqb-true, eqb-false}
+use borrow.Author.Tests.{ltb-false, le-leb, eqb-true, eqb-false}
 use lib.Dec.{leb, ltb, eqb}
 use lib.ListN.{length, getD, take, drop, length-append, length-map, length-reverse, length-drop}
 use Rattle.tools.specs.Bytes.{Octets}
@@ -20,12 +20,11 @@ use Rattle.tag_parse.specs.declared.types.EBMLSize.{EBMLSize}
 use Rattle.tag_parse.specs.declared.types.EBMLSize.the-variants.{Known, Unknown}
 use Rattle.tag_parse.specs.declared.types.TagValue.{TagValue}
 use Rattle.decoder_state.specs.State.{opens, endOf, noEnd, withOpen, withWaiting, withNotes, atPosition, settledTo, opened, closedTo, handedOut}
-use Rattle.decoder_state.specs.OneCall.{errorNumber, goodOpen, openTag, reaches, noted, decide, move, apply, decode, refuse, firstIndex, isCut, cutMaster, cutBytes, finish, closeAll, cutOr, ended, endedOr, decodeEof}
+use Rattle.decoder_state.specs.OneCall.{errorNumber, goodOpen, openTag, reaches, noted, decide, move, apply, decode, refuse, firstIndex, isCut, cutMaster, cutBytes, finish, closeAll, ended, endedOr, decodeEof}
 use Rattle.decoder_state.specs.declared.types.Action.{Action}
 use Rattle.decoder_state.specs.declared.types.Action.the-variants as act
 use Rattle.decoder_state.specs.declared.types.Answer.{Answer}
 use Rattle.decoder_state.specs.declared.types.Answer.the-variants as answer
-use Rattle.decoder_state.specs.declared.types.Decision.{Decision}
 use Rattle.decoder_state.specs.declared.types.Decoded.{Decoded}
 use Rattle.decoder_state.specs.declared.types.DecodeError.{DecodeError}
 use Rattle.decoder_state.specs.declared.types.DecodeError.the-variants as error
@@ -36,19 +35,19 @@ use Rattle.decoder_state.specs.declared.types.Given.the-variants.{Nothing, Numb
 use Rattle.decoder_state.specs.declared.types.Note.{Note}
 use Rattle.decoder_state.specs.declared.types.Note.the-variants.{NoNote, Settle}
 use Rattle.decoder_state.specs.declared.types.TagDecoder.{TagDecoder}
-use Rattle.decoder_state.proofs.Good.{GoodState, every-drop, every-map, and-both, both, is-good-open}
+use Rattle.decoder_state.proofs.Good.{every-drop, every-map, and-both, both, is-good-open}
 use Rattle.decoder_state.proofs.Kept.{opens-length, waits-length}
 use Rattle.decoder_decide.proofs.Judged.{pick}
-use Rattle.tag_decoder.specs.Fits.{Fits, NoteFits}
+use Rattle.tag_decoder.specs.Fits.{Fits}
 use Rattle.tag_decoder.proofs.Fitting.{decide-fits, hands-out, closes, starts as start-fits, passes-on}
 use Rattle.guarantees.specs.Calls.{impliedBy}
 use Rattle.guarantees.specs.History.{Started, declaredEnd, endAfter, afterAnswer, outermostEnd, leftByAnswer, leftByEnd}
 use Rattle.guarantees.specs.Promises.{valueKind, EndMatches}
-use Rattle.guarantees.proofs.Decided.{allMasters, is-master, Mild, Reading, Inside, InsideSize, Small, Heads, Starts, Holds, Closes, Facts, Settles, NoteFacts, AllFacts, decide-facts}
+use Rattle.guarantees.proofs.Decided.{allMasters, is-master, Mild, Reading, InsideSize, Small, Heads, Starts, Holds, Closes, Facts, NoteFacts, decide-facts}
 use Rattle.guarantees.proofs.Ends.{knownEnd, endedBy, every-reversed}
-use Rattle.guarantees.proofs.Tied.{asStarted, parentOf, asEnd, stack, allEnded, allStarted, Linked, Tied, none-open, both-empty}
+use Rattle.guarantees.proofs.Tied.{asStarted, parentOf, asEnd, stack, allEnded, Linked, Tied, both-empty}
 use Rattle.guarantees.proofs.Outermost.{none-batch, batch-less, all-batch, batch-closed}
-use Rattle.guarantees.proofs.Moves.{none-ended, moved-linked, settled-linked, opened-linked, Popped, handed-linked, closed-linked}
+use Rattle.guarantees.proofs.Moves.{none-ended, moved-linked, settled-linked, opened-linked, handed-linked, closed-linked}
 
 -- ---- what is promised of an answer
 

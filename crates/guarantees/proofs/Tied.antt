@@ -1,29 +1,22 @@
 -- The invariant that ties the decoder's record to what a caller can tell: the waiting Ends and then the open masters, from the top down, are exactly the
 -- Starts that are open and then the implied parents that are left. Each move of the record keeps it. Assumes nothing.
-use Prim.Native.Nat.{ℕ, zero, suc, _+_, _-_, _^_, _≤_, _<_}
-use mathlib.Core.Path.{_≡_, refl, sym, ap, _∙_, subst}
-use mathlib.Core.Bool.{Bool, true, false, cond, not, _&&_, _||_, true≢false, false≢true}
-use mathlib.Core.List.{List, [], _∷_, _++_, map, reverse, append-assoc, append-nil, map-append, reverse-append}
+use Prim.Native.Nat.{ℕ, _≤_}
+use mathlib.Core.Path.{_≡_, refl, ap}
+use mathlib.Core.Bool.{Bool, true, false, false≢true}
+use mathlib.Core.List.{List, [], _∷_, _++_, map, reverse}
 use native.Mathlib.Omega.{arith}
-use borrow.Author.Tests.{leb-true, le-leb}
-use lib.Dec.{leb, ltb, eqb}
-use lib.ListN.{length, getD, take, drop, length-append, length-map, length-reverse, take-append-drop}
+use lib.ListN.{length, take, drop}
 use Rattle.table.specs.Lists.{every}
-use Rattle.table.specs.Table.{Entry, partsOf, within, dataTypeOf, isMaster}
-use Rattle.table.specs.declared.types.PathPart.{PathPart}
-use Rattle.table.specs.declared.types.PathPart.the-variants.{Id, Global}
+use Rattle.table.specs.Table.{Entry, dataTypeOf, isMaster}
 use Rattle.spec_util.specs.declared.types.OpenTag.{OpenTag}
-use Rattle.spec_util.specs.Walk.{noTag}
-use Rattle.decoder_state.specs.State.{opens, endOf, endFor, noEnd, fresh, implied, withOpen, withWaiting, withNotes, atPosition, settledTo, opened, closedTo, handedOut, grownBy, grown}
-use Rattle.decoder_state.specs.OneCall.{goodOpen, openTag}
-use Rattle.decoder_state.specs.declared.types.Given.{Given}
-use Rattle.decoder_state.specs.declared.types.Given.the-variants.{Nothing, Number}
+use Rattle.decoder_state.specs.State.{opens, endOf, fresh}
+use Rattle.decoder_state.specs.declared.types.Given.the-variants.{Nothing}
 use Rattle.decoder_state.specs.declared.types.WaitingEnd.{WaitingEnd}
 use Rattle.decoder_state.specs.declared.types.TagDecoder.{TagDecoder}
-use Rattle.decoder_state.proofs.Good.{GoodState, every-append, and-both, both, is-good-open}
-use Rattle.decoder_state.proofs.Kept.{waits, Arrays, opens-length, waits-length, fresh-arrays}
+use Rattle.decoder_state.proofs.Good.{GoodState}
+use Rattle.decoder_state.proofs.Kept.{waits, Arrays, fresh-arrays}
 use Rattle.decoder_state.proofs.Stays.{fresh-good}
-use Rattle.guarantees.specs.History.{Started, laterEnd, later, outermostEnd, leftByEnd}
+use Rattle.guarantees.specs.History.{Started, outermostEnd, leftByEnd}
 use Rattle.guarantees.specs.Promises.{EndMatches}
 use Rattle.guarantees.proofs.Ends.{knownEnd, endedBy}
 use Rattle.guarantees.proofs.Decided.{allMasters}

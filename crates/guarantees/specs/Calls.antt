@@ -1,7 +1,7 @@
 -- Any calls on one decoder that begins fresh, with what each of them answers, by the very definitions that the routines' contracts cite.
 -- A list of calls stands latest first.
 use Prim.Native.Nat.{ℕ}
-use mathlib.Core.Bool.{Bool, true, false, cond}
+use mathlib.Core.Bool.{Bool, cond}
 use mathlib.Core.List.{List, [], _∷_, map, reverse}
 use lib.ListN.{length}
 use Rattle.tools.specs.Bytes.{Octets}

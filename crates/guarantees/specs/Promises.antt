@@ -1,11 +1,9 @@
 -- The promises of demand 3 as statements over any calls on a fresh decoder: each speaks of the last of the calls, whatever the calls before it were.
-use Prim.Native.Nat.{ℕ, zero, suc, _+_, _≤_, _<_}
+use Prim.Native.Nat.{ℕ, zero, suc, _≤_, _<_}
 use mathlib.Core.Path.{_≡_}
-use mathlib.Core.Bool.{Bool, true, false}
 use mathlib.Core.List.{List, [], _∷_, _++_, List·Memᴰ}
-use lib.ListN.{length}
 use Rattle.table.specs.Check.{checkTable}
-use Rattle.table.specs.Table.{Entry, tableOf, dataTypeOf}
+use Rattle.table.specs.Table.{tableOf}
 use Rattle.table.specs.declared.types.Checked.the-variants.{Passed}
 use Rattle.table.specs.declared.types.TagDataType.{TagDataType}
 use Rattle.table.specs.declared.types.TagDataType.the-variants as type
@@ -20,8 +18,8 @@ use Rattle.decoder_state.specs.declared.types.Given.{Given}
 use Rattle.decoder_state.specs.declared.types.Given.the-variants.{Nothing, Number}
 use Rattle.decoder_state.specs.declared.types.Search.{Search}
 use Rattle.decoder_state.specs.declared.types.Search.the-variants as search
-use Rattle.guarantees.specs.Calls.{Call, ending, lent, Told, answered, searched, silent, toldBy, impliedBy, noteOf, recordAfter, history, Lent}
-use Rattle.guarantees.specs.History.{Started, declaredEnd, startsOpen, parentsLeft, position}
+use Rattle.guarantees.specs.Calls.{Call, ending, Told, answered, searched, silent, toldBy, impliedBy, noteOf, recordAfter, history, Lent}
+use Rattle.guarantees.specs.History.{Started, startsOpen, parentsLeft, position}
 
 -- ---- what stands in an answer
 
