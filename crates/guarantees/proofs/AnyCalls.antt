@@ -21,7 +21,7 @@ use Rattle.decoder_state.specs.declared.types.Given.the-variants.{Nothing, Numb
 use Rattle.decoder_state.specs.declared.types.Note.{Note}
 use Rattle.decoder_state.specs.declared.types.Note.the-variants.{NoNote, Settle}
 use Rattle.decoder_state.specs.declared.types.TagDecoder.{TagDecoder}
-use Rattle.tag_decoder.specs.Settings.{withSettings, limitedTo}
+use Rattle.tag_decoder.specs.Settings.{withSettings, allowing, limitedTo}
 use Rattle.guarantees.specs.Calls.{Call, decoding, ending, recovering, allow, limit, lent, Told, answered, searched, silent, toldBy, next, impliedBy, scanNoteOr, noteOf, recordAfter, history, Lent}
 use Rattle.guarantees.specs.History.{Started, afterTold, startsOpen, leftBy, parentsLeft, takenBy, position, testAfter, childTestOn}
 use Rattle.guarantees.specs.Promises.{Runs}
@@ -85,6 +85,10 @@ module _ (es ps : List ℕ) (checked : checkTable es ps ≡ Passed) (d : TagDeco
   same-test Nothing = refl
   same-test (Number n) = refl
 
+  set-test : (ids hierarchy oversized : Bool) → not (allowing d ids hierarchy oversized .«allow_oversized») ≡ testAfter (allow ids hierarchy oversized) (not (d .«allow_oversized»))
+  unfolding withSettings
+  set-test ids hierarchy oversized = refl
+
   pub after : (c : Call) → Octets (lent c) → After es ps d starts left p c
   unfolding impliedBy withSettings
   after (decoding s) byte =
@@ -96,7 +100,7 @@ module _ (es ps : List ℕ) (checked : checkTable es ps ≡ Passed) (d : TagDeco
   after (recovering s) byte =
       let c = recover-searched es ps (good-shape es ps checked) (passed-gives es ps checked) starts d s left p k in
       record { promised = c .promised; tied = c .tied; measured = tt; batch = tt; test = ap not (recover-keeps es ps d s) }
-  after (allow ids hierarchy oversized) byte = record { promised = tt; tied = set-tied ids hierarchy oversized (d .«max_given») (d .«max_size»); measured = tt; batch = tt; test = refl }
+  after (allow ids hierarchy oversized) byte = record { promised = tt; tied = set-tied ids hierarchy oversized (d .«max_given») (d .«max_size»); measured = tt; batch = tt; test = set-test ids hierarchy oversized }
   after (limit n) byte = record { promised = tt; tied = limited n; measured = tt; batch = tt; test = same-test n }
 
   -- ---- a settled record implies no parent
