@@ -1,9 +1,9 @@
--- Document 01's D1, D2 and D5 as histories: what a caller can tell from the calls and their answers, computed. Assumes nothing.
+-- Document 01's D1, D2, D3 and D5 as histories: what a caller can tell from the calls and their answers, computed. Assumes nothing.
 use Prim.Native.Nat.{ℕ}
 use mathlib.Core.Path.{_≡_, refl}
 use mathlib.Core.List.{List, [], _∷_}
 use lib.Count.{leadingZeros}
-use lib.ListN.{drop}
+use lib.ListN.{take, drop}
 use lib.Ieee.{nanBits, toBits, ofBits}
 use Rattle.tools.specs.Bytes.{beFrom}
 use Rattle.tools.specs.Vint.{readVint}
@@ -25,6 +25,7 @@ use Rattle.decoder_state.specs.declared.types.Given.the-variants.{Nothing, Numb
 use Rattle.decoder_state.proofs.Starred.{entries, parts}
 use Rattle.guarantees.specs.Calls.{Call, ending, recovering, recordAfter, history, impliedBy, placeNote, scanNote}
 use Rattle.guarantees.specs.History.{Started, declaredEnd, later, startsOpen, parentsLeft, position}
+use Rattle.guarantees.specs.Promises.{answerRefusal, atTheEnd}
 
 -- the calls of a caller who lends all that is left each time, up to the end of input: the first n calls on the bytes s, of which each takes as many as
 -- this list says; latest first
@@ -55,6 +56,9 @@ pub record Seen : Type 0 where
   pub d1-finish : seen (lending (3 ∷ 2 ∷ 3 ∷ 4 ∷ 0 ∷ 0 ∷ 0 ∷ []) d1 []) ≡ ([], [], 12)
   -- D2: sizes unknown
   pub d2-data : seen (lending (3 ∷ 2 ∷ 3 ∷ []) d2 []) ≡ (record { id = 0xA1; offset = 3; end = Nothing } ∷ record { id = 0x4E01; offset = 0; end = Nothing } ∷ [], [], 8)
+  -- D3, D1 cut after 8 bytes: Session and Feed are open and not full, and the end of input answers 23
+  pub d3-data : seen (lending (3 ∷ 2 ∷ 3 ∷ []) (take 8 d1) []) ≡ (record { id = 0xA1; offset = 3; end = Number 12 } ∷ record { id = 0x4E01; offset = 0; end = Number 12 } ∷ [], [], 8)
+  pub d3-cut : answerRefusal (atTheEnd entries parts (lending (3 ∷ 2 ∷ 3 ∷ []) (take 8 d1) [])) ≡ 23
   -- D5: reading begins below the root, so that Feed and Session are implied
   pub d5-data : seen (lending (3 ∷ []) d5 []) ≡ ([], 0xA1 ∷ 0x4E01 ∷ [], 3)
   pub d5-end : seen (lending (3 ∷ 0 ∷ []) d5 []) ≡ ([], 0x4E01 ∷ [], 3)
@@ -71,6 +75,8 @@ seen-so = record {
   d1-end = refl;
   d1-finish = refl;
   d2-data = refl;
+  d3-data = refl;
+  d3-cut = refl;
   d5-data = refl;
   d5-end = refl;
   d5-finish = refl;

@@ -11,4 +11,5 @@ pub mod Guarantees
 pub mod Cut
 pub mod Nested
 pub mod Night
+pub mod Demand3
 pub mod Needed

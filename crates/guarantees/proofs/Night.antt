@@ -176,7 +176,7 @@ unfolding endingAgain Lent
 ends-runs es ps cs run zero = run
 ends-runs es ps cs run (suc n) = let r = ends-runs es ps cs run n in record { checked = r .checked; octets = (no-octets, r .octets) }
 
-one-more : (es ps : List ℕ) (cs : List Call) → Runs es ps cs → Runs es ps (ending [] ∷ cs)
+pub one-more : (es ps : List ℕ) (cs : List Call) → Runs es ps cs → Runs es ps (ending [] ∷ cs)
 unfolding Lent
 one-more es ps cs run = record { checked = run .checked; octets = (no-octets, run .octets) }
 

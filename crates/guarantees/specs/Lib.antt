@@ -1,3 +1,4 @@
 pub mod Calls
 pub mod History
 pub mod Promises
+pub mod Demand3
