@@ -1,4 +1,5 @@
--- The checked table is needed: small tables that the check refuses, and runs with them in which a promise fails, computed. Assumes nothing.
+-- The checked table is needed: small tables that the check refuses, and runs with them in which a promise fails, computed. Rules 33 and 34 are the ones that
+-- the promises rest on. Assumes nothing.
 use Prim.Native.Nat.{ℕ}
 use mathlib.Core.Path.{_≡_, refl}
 use mathlib.Core.List.{List, [], _∷_}

@@ -1,5 +1,6 @@
--- What a caller can tell from the calls and their answers alone: the Starts that have not had their End, the implied parents that are left, and the
--- position. Nothing here is read off the decoder's record. A history stands latest first.
+-- What a caller can tell from the calls and their answers: the Starts that have not had their End, the implied parents that are left, and the position. Starts,
+-- ends and position come from the events, the bytes lent and the counts of bytes taken, and not from the decoder's record; the parents that a call
+-- implies stand in its step (Calls.antt), since no answer names them. A history stands latest first.
 use Prim.Native.Nat.{ℕ, _+_}
 use mathlib.Core.Bool.{Bool, true, false, not, _&&_}
 use mathlib.Core.List.{List, [], _∷_, _++_, map}
