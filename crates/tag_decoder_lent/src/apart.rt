@@ -1,0 +1,23 @@
+// An answer by value, taken apart.
+
+ghost use mathlib.Core.Path.{_≡_};
+ghost use Rattle.tag_decoder_lent.specs.Lent.{said};
+use crate::types::Said;
+use decoder_state::types::Decoded;
+use decoder_state::types::TagDecoder;
+
+pub fn record_of(a: Decoded) -> TagDecoder
+    ensures { λ r. ⌜ r ≡ a .state ⌝ }
+{
+    a.state
+}
+
+pub fn said_of(a: Decoded) -> Said
+    ensures { λ r. ⌜ r ≡ said a ⌝ }
+{
+    let answer = a.answer;
+    Said {
+        answer,
+        taken: a.taken,
+    }
+}

@@ -1,0 +1,19 @@
+// `decode`, `decode_eof` and `try_recover` on a lent record.
+
+ghost use Rattle.decoder_state.specs.OneCall.{decode, decodeEof};
+ghost use Rattle.tag_decoder_lent.specs.Lent.{Leaves, apart};
+use crate::apart::record_of;
+use crate::apart::said_of;
+use crate::types::Said;
+use decoder_state::types::TagDecoder;
+
+// One call: the next event, or need more, finished, or a refusal. The record lent moves as the answer's record has it.
+pub fn decode(d: &mut TagDecoder, entries: &[u64], parts: &[u64], input: &[u8]) -> Said
+    ensures { λ r. ⌜ Leaves r (now (d .exit)) (apart (decode (now (entries .entry)) (now (parts .entry)) (now (d .entry)) (now (input .entry)))) ⌝ }
+{
+    let record = *d;
+    let answer = tag_decoder::calls::decode(entries, parts, record, input);
+    let next = record_of(answer);
+    *d = next;
+    said_of(answer)
+}
