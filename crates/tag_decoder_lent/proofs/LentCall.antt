@@ -44,6 +44,7 @@ use Rattle.decoder_state.specs.declared.types.TagDecoder.{TagDecoder}
 use Rattle.decoder_state.proofs.types.TagDecoder as T
 use Rattle.decoder_state.proofs.types.TagDecoder.Laws as T′
 use Rattle.tag_decoder_lent.specs.Lent.{Leaves}
+use Rattle.tag_decoder_lent.proofs.LentSteps.{machine, opens-record, calls-saying, told, Parted, calls-part}
 
 -- ---- the four contracts
 
@@ -58,10 +59,6 @@ by-value R = record {
   };
   kept = (yes, (yes, (yes, (yes, tt))));
 }
-
--- a part of an answer is taken out
-abbrev pub part-of : Declared → Declared → Ended
-part-of R S = record { signature = record { lifetimes = 0; outlives = []; params = plain (λ _. row R) ∷ []; result = plain (λ _. row S) }; kept = (yes, tt) }
 
 -- a call that is lent the record
 abbrev pub lending : Declared → Ended
@@ -83,26 +80,6 @@ module _ {M : Type 1} (𝓤 : URA M) (H : Heap 𝓤) (A : Atoms 𝓤) where
 
     abbrev pub Stepped : Contract 𝓤
     Stepped = tripleOf 𝓤 H A (by-value R .signature) (closing 𝓤 H A (by-value R) stepped)
-
-    stepped-says : (κs : Lfts 3) (e p : RefT (List ℕ)) (d : TagDecoder) (i : RefT (List ℕ)) (r : R .D)
-        → ent 𝓤 (ensured 𝓤 H A (by-value R) stepped κs (e, (p, (d, (i, tt)))) tt r) (fact 𝓤 (r ≡ step (now e) (now p) d (now i)))
-    stepped-says κs e p d i r = exE 𝓤 _ (λ ws. snd∗ 𝓤 (sem 𝓤 H A (lasts (by-value R) κs (e, (p, (d, (i, tt)))) ws)) (fact 𝓤 (r ≡ step (now e) (now p) d (now i))))
-
-  module _ (R S : Declared) (part : R .D → S .D) where
-    abbrev pub parted : Clauses 𝓤 (part-of R S)
-    parted κs a = record { ghost = Unit {0}; requires = λ _. emp 𝓤; ensures = λ _ r _. fact 𝓤 (r ≡ part (a .0)) }
-
-    abbrev pub Parted : Contract 𝓤
-    Parted = tripleOf 𝓤 H A (part-of R S .signature) (closing 𝓤 H A (part-of R S) parted)
-
-    parted-says : (a : R .D) (r : S .D) → ent 𝓤 (ensured 𝓤 H A (part-of R S) parted tt (a, tt) tt r) (fact 𝓤 (r ≡ part a))
-    parted-says a r = exE 𝓤 _ (λ ws. snd∗ 𝓤 (sem 𝓤 H A (lasts (part-of R S) tt (a, tt) ws)) (fact 𝓤 (r ≡ part a)))
-
-    abbrev to-part : R .D → Val → Parted .Ghost
-    to-part a v = ((tt, tt, tt, (a, tt), (v ∷ [], tt)), tt)
-
-    goes-part : Given 𝓤 H A → (a : R .D) (v : Val) → ent 𝓤 (sem 𝓤 H A (row R .own a (v ∷ []))) (Parted .pre (to-part a v))
-    goes-part W a v = qed W (‵ (row R .own a (v ∷ [])) ∷ []) ∵ nothing ! $ move ! (1 ∷ 0 ∷ []) $ join ! $ nothing ! $ join ! $ frame ! $ done !
 
   abbrev pub lent : (S : Declared) → (List ℕ → List ℕ → TagDecoder → List ℕ → S .D × TagDecoder) → Clauses 𝓤 (lending S)
   lent S step κs a = record {
@@ -171,9 +148,6 @@ module _ (R S : Declared) (RL : LL.Laws R) (RP : Plains (fields R)) (SL : LL.Law
       abbrev vi : Val
       vi = sliceVal (s .ptr) (length (s .now))
 
-      abbrev mach : Val
-      mach = LL.val T.the-type T′.the-laws h
-
       abbrev at : List Val × (List Val × (List Val × (List Val × Unit {0})))
       at = (vptr b o ∷ [], (ve ∷ [], (vp ∷ [], (vi ∷ [], tt))))
 
@@ -199,15 +173,15 @@ module _ (R S : Declared) (RL : LL.Laws R) (RP : Plains (fields R)) (SL : LL.Law
           nothing ! $ move ! (3 ∷ 0 ∷ []) $ fjoin ! $ move ! (3 ∷ 0 ∷ []) $ fjoin ! $ move ! (3 ∷ 0 ∷ []) $ fjoin ! $ move ! (1 ∷ 0 ∷ []) $ fjoin ! $ frame ! $ done !
 
       abbrev to-step : Stepped 𝓤 H A R step .Ghost
-      to-step = (((κe, (κp, (κi, tt))), (qe, (qp, (qi, tt))), tt, (es, (ps, (h, (s, tt)))), (ve ∷ [], (vp ∷ [], (mach ∷ [], (vi ∷ [], tt))))), tt)
+      to-step = (((κe, (κp, (κi, tt))), (qe, (qp, (qi, tt))), tt, (es, (ps, (h, (s, tt)))), (ve ∷ [], (vp ∷ [], (machine h ∷ [], (vi ∷ [], tt))))), tt)
 
-      asked : ent 𝓤 (onEntry 𝓤 H A (by-value R .signature) (κe, (κp, (κi, tt))) (qe, (qp, (qi, tt))) (es, (ps, (h, (s, tt)))) (ve ∷ [], (vp ∷ [], (mach ∷ [], (vi ∷ [], tt))))) (Stepped 𝓤 H A R step .pre to-step)
+      asked : ent 𝓤 (onEntry 𝓤 H A (by-value R .signature) (κe, (κp, (κi, tt))) (qe, (qp, (qi, tt))) (es, (ps, (h, (s, tt)))) (ve ∷ [], (vp ∷ [], (machine h ∷ [], (vi ∷ [], tt))))) (Stepped 𝓤 H A R step .pre to-step)
       asked =
-          qed W ((‵ (flft κe qe) ⊛ ‵ (flft κp qp) ⊛ ‵ (flft κi qi) ⊛ ‵ ftrue) ∷ ‵ (owns (ShrSlice (named 0) κe u64 ∷ ShrSlice (named 1) κp u64 ∷ T.the-row ∷ ShrSlice (named 2) κi u8 ∷ []) (es, (ps, (h, (s, tt)))) (ve ∷ [], (vp ∷ [], (mach ∷ [], (vi ∷ [], tt))))) ∷ []) ∵
+          qed W ((‵ (flft κe qe) ⊛ ‵ (flft κp qp) ⊛ ‵ (flft κi qi) ⊛ ‵ ftrue) ∷ ‵ (owns (ShrSlice (named 0) κe u64 ∷ ShrSlice (named 1) κp u64 ∷ T.the-row ∷ ShrSlice (named 2) κi u8 ∷ []) (es, (ps, (h, (s, tt)))) (ve ∷ [], (vp ∷ [], (machine h ∷ [], (vi ∷ [], tt))))) ∷ []) ∵
           join ! $ frame ! $ done !
 
       module _ (C : Calls 𝓤 H) (Λ : Loops 𝓤 H) (fm : FmC 𝓤 H (W .laws) C) (known : Triple 𝓤 (C #step) (Stepped 𝓤 H A R step))
-          (known-record : Triple 𝓤 (C #record) (Parted 𝓤 H A R T.the-type record-of)) (known-rest : Triple 𝓤 (C #rest) (Parted 𝓤 H A R S rest-of)) where
+          (known-record : Triple 𝓤 (C #record) (Parted 𝓤 H A (row R) T.the-row record-of)) (known-rest : Triple 𝓤 (C #rest) (Parted 𝓤 H A (row R) (row S) rest-of)) where
         walk : Is (ShrSlice (named 1) κe u64) es (ve ∷ []) → Is (ShrSlice (named 2) κp u64) ps (vp ∷ []) → Is (ShrSlice (named 3) κi u8) s (vi ∷ [])
             → ent 𝓤 (onEntry 𝓤 H A (lending S .signature) κs (q, (qe, (qp, (qi, tt)))) x at) (WpFn 𝓤 H C Λ (lentFn R S #step #record #rest) (vptr b o ∷ ve ∷ vp ∷ vi ∷ []) Post)
         walk ie ip ii =
@@ -218,8 +192,7 @@ module _ (R S : Declared) (RL : LL.Laws R) (RP : Plains (fields R)) (SL : LL.Law
             alloc1 ! (λ l₀. alloc1 ! (λ l₁. alloc1 ! (λ l₂. alloc1 ! (λ l₃. alloc1 ! (λ l₄. alloc1 ! (λ l₅. alloc1 ! (λ l₆. alloc1 ! (λ l₇. alloc0 ! $ params1 ! $ pass1 ! (init ! 12 refl (tt, tt)) $
             pass1 ! (init ! 10 refl (shr-slice-lawful 𝓤 H A W (named 1) κe u64 .typed es (ve ∷ []) ie .0)) $ pass1 ! (init ! 8 refl (shr-slice-lawful 𝓤 H A W (named 2) κp u64 .typed ps (vp ∷ []) ip .0)) $
             pass1 ! (init ! 6 refl (shr-slice-lawful 𝓤 H A W (named 3) κi u8 .typed s (vi ∷ []) ii .0)) $ pass0 ! $
-            move ! (16 ∷ 17 ∷ 18 ∷ []) $ opens ! tt T.the-row {h = h} b o (λ vs. spelt ! T.the-row (Is T.the-row) (shows 𝓤 H A T.the-row) (LL.vals T.the-type T′.the-laws) (LL.tells T.the-type T′.the-laws) fullShare h vs b o $
-            move ! (1 ∷ []) $ peeks ! T.the-row (Is T.the-row) (shows 𝓤 H A T.the-row) h (mach ∷ []) (λ was. move ! (1 ∷ 0 ∷ []) $
+            move ! (16 ∷ 17 ∷ 18 ∷ []) $ opens-record ! tt h b o (λ was.
             -- [the cell; what the record owns; the open borrow; obs; auth; _7; …; _6; …; _5; …; _4; …; _3; …; _2; …; _1; …; _0; …; input; true; parts; entries; the slices' tokens]
             assigns ! (of-opd ! (load ! (from ! (hop ! (look ! 17 refl) (stop !))) (look-raw ! 0 refl))) (from ! (stop !)) (init ! 9 refl (LL.lawful T.the-type T′.the-laws 𝓤 H A W .typed h _ was .0)) $
             -- each slice is copied: one goes to the call, one is kept
@@ -229,32 +202,25 @@ module _ (R S : Declared) (RL : LL.Laws R) (RP : Plains (fields R)) (SL : LL.Law
             nothing ! $ move ! (1 ∷ 0 ∷ []) $ fjoin ! $ move ! (6 ∷ 0 ∷ []) $ fjoin ! $ move ! (2 ∷ 0 ∷ []) $ fjoin ! $ move ! (3 ∷ 0 ∷ []) $ fjoin ! $ move ! (4 ∷ 0 ∷ []) $
             use2 W (raw (Stepped 𝓤 H A R step .pre to-step)) asked $
             -- [what the call asks; input; parts; entries; the cell; the open borrow; obs; auth; _7; …; _6; …; _5; …; _4; …; _3; …; _2; …; _1; …; _0; …]
-            calls-at ! fm (Stepped 𝓤 H A R step) known to-step (and-then ! (load ! (from ! (stop !)) (look ! 18 refl)) (and-then ! (load ! (from ! (stop !)) (look ! 16 refl)) (and-then ! (load ! (from ! (stop !)) (look ! 12 refl)) (and-then ! (load ! (from ! (stop !)) (look ! 14 refl)) (no-more !))))) (λ u.
-            use1 W (later (some (λ (r : R .D). ((‵ (flft κe qe) ⊛ ‵ (flft κp qp) ⊛ ‵ (flft κi qi) ⊛ ‵ ftrue) ⊛ ‵ (row R .own r (u ∷ []))) ⊛ raw (ensured 𝓤 H A (by-value R) (stepped 𝓤 H A R step) (κe, (κp, (κi, tt))) (es, (ps, (h, (s, tt)))) tt r)))) (id⊢ 𝓤 _) $ await ! tt $ pick ! (λ r.
-            split ! $ move ! (1 ∷ []) $ use1 W (raw (fact 𝓤 (r ≡ step (now es) (now ps) h (now s)))) (stepped-says 𝓤 H A R step (κe, (κp, (κi, tt))) es ps h s r) $ heard ! (r ≡ step (now es) (now ps) h (now s)) (λ e. split ! $ move ! (1 ∷ []) $
+            calls-saying ! fm (Stepped 𝓤 H A R step) known to-step (‵ (flft κe qe) ⊛ ‵ (flft κp qp) ⊛ ‵ (flft κi qi) ⊛ ‵ ftrue) (row R)
+            (λ r. ensured 𝓤 H A (by-value R) (stepped 𝓤 H A R step) (κe, (κp, (κi, tt))) (es, (ps, (h, (s, tt)))) tt r) (λ r. r ≡ step (now es) (now ps) h (now s)) (λ u. id⊢ 𝓤 _)
+            (λ r. told 𝓤 H A (by-value R) (κe, (κp, (κi, tt))) (es, (ps, (h, (s, tt)))) (r ≡ step (now es) (now ps) h (now s)))
+            (and-then ! (load ! (from ! (stop !)) (look ! 18 refl)) (and-then ! (load ! (from ! (stop !)) (look ! 16 refl)) (and-then ! (load ! (from ! (stop !)) (look ! 12 refl)) (and-then ! (load ! (from ! (stop !)) (look ! 14 refl)) (no-more !))))) (λ u r e is.
             -- [the answer; the slices' tokens; input; parts; entries; the cell; the open borrow; obs; auth; _7; …; _6; …; _5; …; _4; …; _3; …; _2; …; _1; …; _0; …]
-            peeks ! (row R) (Is (row R)) (shows 𝓤 H A (row R)) r (u ∷ []) (λ is.
             land ! (from ! (stop !)) (init ! 11 refl (LL.lawful R RL 𝓤 H A W .typed r _ is .0)) $
-            use1 W (raw (Parted 𝓤 H A R T.the-type record-of .pre (to-part 𝓤 H A R T.the-type record-of r u))) (goes-part 𝓤 H A R T.the-type record-of W r u) $
-            calls-at ! fm (Parted 𝓤 H A R T.the-type record-of) known-record (to-part 𝓤 H A R T.the-type record-of r u) (and-then ! (load ! (from ! (stop !)) (look ! 11 refl)) (no-more !)) (λ u₂.
-            use1 W (later (some (λ (t : TagDecoder). (‵ ftrue ⊛ ‵ (T.the-row .own t (u₂ ∷ []))) ⊛ raw (ensured 𝓤 H A (part-of R T.the-type) (parted 𝓤 H A R T.the-type record-of) tt (r, tt) tt t)))) (id⊢ 𝓤 _) $ await ! tt $ pick ! (λ t.
-            split ! $ move ! (1 ∷ []) $ use1 W (raw (fact 𝓤 (t ≡ record-of r))) (parted-says 𝓤 H A R T.the-type record-of r t) $ heard ! (t ≡ record-of r) (λ e₂. split ! $ drop ! $
-            peeks ! T.the-row (Is T.the-row) (shows 𝓤 H A T.the-row) t (u₂ ∷ []) (λ is₂.
+            calls-part 𝓤 H A (row R) T.the-row record-of ! fm known-record r u (and-then ! (load ! (from ! (stop !)) (look ! 11 refl)) (no-more !)) (λ u₂ t e₂ is₂.
             land ! (from ! (stop !)) (init ! 9 refl (LL.lawful T.the-type T′.the-laws 𝓤 H A W .typed t _ is₂ .0)) $
             assigns ! (of-opd ! (load ! (from ! (stop !)) (look ! 9 refl))) (from ! (hop ! (look ! 21 refl) (stop !))) (store-raw ! 5 refl (LL.lawful T.the-type T′.the-laws 𝓤 H A W .typed t _ is₂ .0)) $
             move ! (5 ∷ 0 ∷ 6 ∷ 7 ∷ 8 ∷ []) $ closes ! tt T.the-row t (u₂ ∷ []) b o $
             -- [obs; the borrow; its token; the slices' tokens; input; parts; entries; _7; …; _6; …; _5; …; _4; …; _3; …; _2; …; _1; …; _0; …]
-            owned ! (row R) (Is (row R)) ((LL.makes R RP) 𝓤 H A) r _ is $ use1 W (raw (Parted 𝓤 H A R S rest-of .pre (to-part 𝓤 H A R S rest-of r u))) (goes-part 𝓤 H A R S rest-of W r u) $
-            calls-at ! fm (Parted 𝓤 H A R S rest-of) known-rest (to-part 𝓤 H A R S rest-of r u) (and-then ! (load ! (from ! (stop !)) (look ! 10 refl)) (no-more !)) (λ u₃.
-            use1 W (later (some (λ (n : S .D). (‵ ftrue ⊛ ‵ (row S .own n (u₃ ∷ []))) ⊛ raw (ensured 𝓤 H A (part-of R S) (parted 𝓤 H A R S rest-of) tt (r, tt) tt n)))) (id⊢ 𝓤 _) $ await ! tt $ pick ! (λ n.
-            split ! $ move ! (1 ∷ []) $ use1 W (raw (fact 𝓤 (n ≡ rest-of r))) (parted-says 𝓤 H A R S rest-of r n) $ heard ! (n ≡ rest-of r) (λ e₃. split ! $ drop ! $
-            peeks ! (row S) (Is (row S)) (shows 𝓤 H A (row S)) n (u₃ ∷ []) (λ is₃.
+            owned ! (row R) (Is (row R)) ((LL.makes R RP) 𝓤 H A) r _ is $
+            calls-part 𝓤 H A (row R) (row S) rest-of ! fm known-rest r u (and-then ! (load ! (from ! (stop !)) (look ! 10 refl)) (no-more !)) (λ u₃ n e₃ is₃.
             land ! (from ! (stop !)) (init ! 22 refl (LL.lawful S SL 𝓤 H A W .typed n _ is₃ .0)) $
             returns ! (look ! 22 refl) $ forget ! 8 refl $ forget ! 10 refl $ forget ! 12 refl $ forget ! 14 refl $ forget ! 16 refl $ forget ! 18 refl $ forget ! 20 refl $ forget ! 22 refl $
             move ! (22 ∷ 23 ∷ []) $ free1 ! $ move ! (20 ∷ 21 ∷ []) $ free1 ! $ move ! (18 ∷ 19 ∷ []) $ free1 ! $ move ! (16 ∷ 17 ∷ []) $ free1 ! $ move ! (14 ∷ 15 ∷ []) $ free1 ! $ move ! (12 ∷ 13 ∷ []) $ free1 ! $ move ! (10 ∷ 11 ∷ []) $ free1 ! $ move ! (8 ∷ 9 ∷ []) $ free1 ! $ free0 ! $
-            keep ! (0 ∷ 1 ∷ 2 ∷ 3 ∷ 4 ∷ 5 ∷ 6 ∷ 7 ∷ []) $ by ! (exits t n u₃ (record { answer = e₃ ∙ ap rest-of e; left = e₂ ∙ ap record-of e }))))))))))))))))))))))))
+            keep ! (0 ∷ 1 ∷ 2 ∷ 3 ∷ 4 ∷ 5 ∷ 6 ∷ 7 ∷ []) $ by ! (exits t n u₃ (record { answer = e₃ ∙ ap rest-of e; left = e₂ ∙ ap record-of e }))))))))))))))
 
-    own-walks : (C : Calls 𝓤 H) (Λ : Loops 𝓤 H) → FmC 𝓤 H (W .laws) C → Triple 𝓤 (C #step) (Stepped 𝓤 H A R step) → Triple 𝓤 (C #record) (Parted 𝓤 H A R T.the-type record-of) → Triple 𝓤 (C #rest) (Parted 𝓤 H A R S rest-of)
+    own-walks : (C : Calls 𝓤 H) (Λ : Loops 𝓤 H) → FmC 𝓤 H (W .laws) C → Triple 𝓤 (C #step) (Stepped 𝓤 H A R step) → Triple 𝓤 (C #record) (Parted 𝓤 H A (row R) T.the-row record-of) → Triple 𝓤 (C #rest) (Parted 𝓤 H A (row R) (row S) rest-of)
         → Walks 𝓤 H A (lending S) stayed (WpFn 𝓤 H C Λ (lentFn R S #step #record #rest)) (lent 𝓤 H A S step-apart)
     own-walks C Λ fm k k₂ k₃ = walked 𝓤 H A (lending S) stayed (lent 𝓤 H A S step-apart) (WpFn 𝓤 H C Λ (lentFn R S #step #record #rest))
         (λ κs. (ptr-vals, (slice-vals, (slice-vals, (slice-vals, tt)))))
@@ -266,7 +232,7 @@ module _ (R S : Declared) (RL : LL.Laws R) (RP : Plains (fields R)) (SL : LL.Law
     goes = (goes-ref 𝓤 H A W 4 0 tt (plain (λ _. T.the-row)), (goes-none-slice 𝓤 H A W 4 (1 ∷ []) tt (plain (λ _. u64)) yes, (goes-none-slice 𝓤 H A W 4 (2 ∷ []) tt (plain (λ _. u64)) yes, (goes-none-slice 𝓤 H A W 4 (3 ∷ []) tt (plain (λ _. u8)) yes, tt))))
 
     -- from the three contracts that the call cites to its own
-    pub lent-meets : (𝓣 : Tables 𝓤 H) → Triple 𝓤 (𝓣 .C #step) (Stepped 𝓤 H A R step) → Triple 𝓤 (𝓣 .C #record) (Parted 𝓤 H A R T.the-type record-of) → Triple 𝓤 (𝓣 .C #rest) (Parted 𝓤 H A R S rest-of)
+    pub lent-meets : (𝓣 : Tables 𝓤 H) → Triple 𝓤 (𝓣 .C #step) (Stepped 𝓤 H A R step) → Triple 𝓤 (𝓣 .C #record) (Parted 𝓤 H A (row R) T.the-row record-of) → Triple 𝓤 (𝓣 .C #rest) (Parted 𝓤 H A (row R) (row S) rest-of)
         → Meets 𝓤 H A (lending S .signature) (WpFn 𝓤 H (𝓣 .C) (𝓣 .Λ) (lentFn R S #step #record #rest)) (closing 𝓤 H A (lending S) (lent 𝓤 H A S step-apart))
     lent-meets 𝓣 k k₂ k₃ = walk-meets 𝓤 H A (lending S) stayed W goes (lent 𝓤 H A S step-apart) (WpFn 𝓤 H (𝓣 .C) (𝓣 .Λ) (lentFn R S #step #record #rest)) (WpFn-mono 𝓤 H (W .laws) 𝓣 (lentFn R S #step #record #rest))
         (own-walks (𝓣 .C) (𝓣 .Λ) (fmOf 𝓤 H (W .laws) 𝓣) k k₂ k₃)

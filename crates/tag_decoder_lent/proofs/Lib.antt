@@ -1,1 +1,2 @@
+pub mod LentSteps
 pub mod LentCall

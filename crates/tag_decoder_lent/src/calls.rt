@@ -17,3 +17,14 @@ pub fn decode(d: &mut TagDecoder, entries: &[u64], parts: &[u64], input: &[u8]) 
     *d = next;
     said_of(answer)
 }
+
+// The same once the input has ended for good.
+pub fn decode_eof(d: &mut TagDecoder, entries: &[u64], parts: &[u64], input: &[u8]) -> Said
+    ensures { λ r. ⌜ Leaves r (now (d .exit)) (apart (decodeEof (now (entries .entry)) (now (parts .entry)) (now (d .entry)) (now (input .entry)))) ⌝ }
+{
+    let record = *d;
+    let answer = tag_decoder::calls::decode_eof(entries, parts, record, input);
+    let next = record_of(answer);
+    *d = next;
+    said_of(answer)
+}

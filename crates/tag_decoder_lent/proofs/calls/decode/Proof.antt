@@ -17,7 +17,8 @@ use Rattle.tag_decoder_lent.proofs.apart.record_of.Symbol as record-def
 use Rattle.tag_decoder_lent.proofs.apart.record_of.Met as record-thm
 use Rattle.tag_decoder_lent.proofs.apart.said_of.Symbol as said-def
 use Rattle.tag_decoder_lent.proofs.apart.said_of.Met as said-thm
-use Rattle.tag_decoder_lent.proofs.LentCall.{Stepped, Parted, lent-meets}
+use Rattle.tag_decoder_lent.proofs.LentCall.{Stepped, lent-meets}
+use Rattle.tag_decoder_lent.proofs.LentSteps.{Parted}
 use Rattle.tag_decoder_lent.proofs.calls.decode.Key.{name as #decode}
 use Rattle.tag_decoder_lent.proofs.calls.decode as own
 use Rattle.tag_decoder_lent.proofs.calls.decode.Statement as stated
@@ -31,5 +32,5 @@ decode-spec 𝓤 H 𝓜 𝓖 𝓡 =
     (lent-meets D.the-type S.the-type D′.the-laws D′.the-plain S′.the-laws step-def.name record-def.name said-def.name (λ es ps d s. decode es ps d s) apart
     𝓤 H (𝓖 .A) (givenOf 𝓤 H 𝓜 𝓖) (tablesOf 𝓤 H 𝓜 (tables 𝓤 H 𝓜 𝓡 code.env))
     (cited 𝓤 H (Stepped 𝓤 H (𝓖 .A) D.the-type (λ es ps d s. decode es ps d s)) 𝓜 𝓡 code.env step-def.name step-def.routine code.calls-tag-decoder·calls·decode (step-thm.met 𝓤 H 𝓜 𝓖 𝓡))
-    (cited 𝓤 H (Parted 𝓤 H (𝓖 .A) D.the-type T.the-type (λ a. a .state)) 𝓜 𝓡 code.env record-def.name record-def.routine code.calls-tag-decoder-lent·apart·record-of (record-thm.met 𝓤 H 𝓜 𝓖 𝓡))
-    (cited 𝓤 H (Parted 𝓤 H (𝓖 .A) D.the-type S.the-type said) 𝓜 𝓡 code.env said-def.name said-def.routine code.calls-tag-decoder-lent·apart·said-of (said-thm.met 𝓤 H 𝓜 𝓖 𝓡)))
+    (cited 𝓤 H (Parted 𝓤 H (𝓖 .A) D.the-row T.the-row (λ a. a .state)) 𝓜 𝓡 code.env record-def.name record-def.routine code.calls-tag-decoder-lent·apart·record-of (record-thm.met 𝓤 H 𝓜 𝓖 𝓡))
+    (cited 𝓤 H (Parted 𝓤 H (𝓖 .A) D.the-row S.the-row said) 𝓜 𝓡 code.env said-def.name said-def.routine code.calls-tag-decoder-lent·apart·said-of (said-thm.met 𝓤 H 𝓜 𝓖 𝓡)))
