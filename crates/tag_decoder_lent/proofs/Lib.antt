@@ -1,2 +1,3 @@
 pub mod LentSteps
 pub mod LentCall
+pub mod LentLook

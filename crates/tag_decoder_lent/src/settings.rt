@@ -1,1 +1,37 @@
 // `allow_errors`, `set_max_allowable_tag_size`, `position` and `is_finished` of a lent record.
+
+ghost use mathlib.Core.Path.{_≡_};
+ghost use Rattle.tag_decoder.specs.Settings.{allowing, limitedTo, isFinished};
+use decoder_state::types::Given;
+use decoder_state::types::TagDecoder;
+
+// Exactly these tests are switched off.
+pub fn allow_errors(d: &mut TagDecoder, ids: bool, hierarchy: bool, oversized: bool)
+    ensures { λ _. ⌜ now (d .exit) ≡ allowing (now (d .entry)) ids hierarchy oversized ⌝ }
+{
+    let record = *d;
+    let next = tag_decoder::settings::allow_errors(record, ids, hierarchy, oversized);
+    *d = next;
+}
+
+pub fn set_max_allowable_tag_size(d: &mut TagDecoder, size: Given)
+    ensures { λ _. ⌜ now (d .exit) ≡ limitedTo (now (d .entry)) size ⌝ }
+{
+    let record = *d;
+    let next = tag_decoder::settings::set_max_allowable_tag_size(record, size);
+    *d = next;
+}
+
+pub fn position(d: &TagDecoder) -> u64
+    ensures { λ r. ⌜ r ≡ now (d .entry) .position ⌝ }
+{
+    let record = *d;
+    tag_decoder::settings::position(record)
+}
+
+pub fn is_finished(d: &TagDecoder) -> bool
+    ensures { λ r. ⌜ r ≡ isFinished (now (d .entry)) ⌝ }
+{
+    let record = *d;
+    tag_decoder::settings::is_finished(record)
+}
