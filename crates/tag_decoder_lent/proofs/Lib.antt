@@ -1,3 +1,5 @@
-pub mod LentSteps
+pub mod Carried
 pub mod LentCall
 pub mod LentLook
+pub mod LentSteps
+pub mod Unique

@@ -1,9 +1,11 @@
 // An answer by value, taken apart.
 
 ghost use mathlib.Core.Path.{_≡_};
-ghost use Rattle.tag_decoder_lent.specs.Lent.{said};
+ghost use Rattle.tag_decoder_lent.specs.Lent.{said, searched};
 use crate::types::Said;
+use crate::types::Searched;
 use decoder_state::types::Decoded;
+use decoder_state::types::Recovered;
 use decoder_state::types::TagDecoder;
 
 pub fn record_of(a: Decoded) -> TagDecoder
@@ -17,6 +19,23 @@ pub fn said_of(a: Decoded) -> Said
 {
     let answer = a.answer;
     Said {
+        answer,
+        taken: a.taken,
+    }
+}
+
+// The same two of a recovery.
+pub fn recovered_of(a: Recovered) -> TagDecoder
+    ensures { λ r. ⌜ r ≡ a .state ⌝ }
+{
+    a.state
+}
+
+pub fn searched_of(a: Recovered) -> Searched
+    ensures { λ r. ⌜ r ≡ searched a ⌝ }
+{
+    let answer = a.answer;
+    Searched {
         answer,
         taken: a.taken,
     }
