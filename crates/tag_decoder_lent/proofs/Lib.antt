@@ -1,5 +1,6 @@
 pub mod Carried
 pub mod LentCall
+pub mod LentLocal
 pub mod LentLook
 pub mod LentSteps
 pub mod Unique
