@@ -1,6 +1,6 @@
 // The event lister's work on slices: what is printed for an answer, and what is done with the buffer between two reads.
 
-mod bench;
+pub mod bench;
 pub mod lines;
 pub mod listing;
 mod numerals;
