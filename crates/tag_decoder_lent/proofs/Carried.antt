@@ -5,35 +5,43 @@ use mathlib.Core.Path.{_≡_, sym, subst}
 use mathlib.Core.List.{List}
 use lib.ListN.{length}
 use Rattle.tools.specs.Bytes.{Octets}
-use Rattle.decoder_state.specs.OneCall.{noted, decide, decode, tryRecover}
+use Rattle.decoder_state.specs.OneCall.{decode, decodeEof, tryRecover}
 use Rattle.decoder_state.specs.declared.types.Answer.the-variants as answer
+use Rattle.decoder_state.specs.declared.types.Decoded.{Decoded}
 use Rattle.decoder_state.specs.declared.types.Event.the-variants.{End}
 use Rattle.decoder_state.specs.declared.types.Refusal.{Refusal}
 use Rattle.decoder_state.specs.declared.types.Search.the-variants as search
 use Rattle.decoder_state.specs.declared.types.TagDecoder.{TagDecoder}
 use Rattle.tag_decoder.proofs.Told as by-value
+use Rattle.tag_decoder.proofs.Told.{CallTold, settled}
 use Rattle.tag_decoder_lent.specs.Lent.{Leaves, said, apart, searched, searchApart}
 use Rattle.tag_decoder_lent.specs.declared.types.Said.{Said}
 use Rattle.tag_decoder_lent.specs.declared.types.Searched.{Searched}
 
 -- what holds of the two parts of an answer holds of what a call returns and leaves
-pub carried : {A : Type 0} (P : A → TagDecoder → Type 0) {r : A} {d : TagDecoder} {p : A × TagDecoder} → Leaves r d p → P (p .0) (p .1) → P r d
-carried P {r} {d} {p} l h = subst (λ e. P r e) (sym (l .left)) (subst (λ a. P a (p .1)) (sym (l .answer)) h)
+pub carried : {A : Type 0} (P : A → TagDecoder → Type 0) {r : A} {e : TagDecoder} {p : A × TagDecoder} → Leaves r e p → P (p .0) (p .1) → P r e
+carried P {r} {e} {p} l h = subst (λ z. P r z) (sym (l .left)) (subst (λ a. P a (p .1)) (sym (l .answer)) h)
 
--- d is the record as it was lent, e as it is left
-module _ (es ps : List ℕ) (d : TagDecoder) (s : List ℕ) {r : Said} {e : TagDecoder} (l : Leaves r e (apart (decode es ps d s))) where
-  pub takes-within : Octets s → r .taken ≤ length s
-  takes-within byte = carried (λ r e. r .taken ≤ length s) l (by-value.takes-within es ps d s byte)
+-- ---- one call, and the end of input
 
-  pub moves-on : e .position ≡ d .position + r .taken
-  moves-on = carried (λ r e. e .position ≡ d .position + r .taken) l (by-value.moves-on es ps d s)
+-- d is the record as it was lent, f the same with the settling note, n the number of bytes lent; r is returned and e is left
+pub record LentTold (d f : TagDecoder) (n : ℕ) (r : Said) (e : TagDecoder) : Type 0 where
+  pub within : r .taken ≤ n
+  pub moves : e .position ≡ d .position + r .taken
+  pub refusal : {x : Refusal} → r .answer ≡ answer.Refused x → (r .taken ≡ 0) × (e ≡ f)
+  pub end : {x o : ℕ} → r .answer ≡ answer.Event (End x o) → r .taken ≡ 0
 
-  -- the record is left as it was lent, but for the settling note
-  pub refusal-changes-nothing : {x : Refusal} → r .answer ≡ answer.Refused x → (r .taken ≡ 0) × (e ≡ noted ps d (decide es ps d s .note))
-  refusal-changes-nothing {x} = carried (λ r e. r .answer ≡ answer.Refused x → (r .taken ≡ 0) × (e ≡ noted ps d (decide es ps d s .note))) l (by-value.refusal-changes-nothing es ps d s)
+told-lent : {d f : TagDecoder} {n : ℕ} {a : Decoded} {r : Said} {e : TagDecoder} → CallTold d f n a → Leaves r e (apart a) → LentTold d f n r e
+told-lent {d} {f} {n} t l = carried (LentTold d f n) l (record { within = t .within; moves = t .moves; refusal = t .refusal; end = t .end })
 
-  pub end-takes-nothing : {x o : ℕ} → r .answer ≡ answer.Event (End x o) → r .taken ≡ 0
-  end-takes-nothing {x} {o} = carried (λ r e. r .answer ≡ answer.Event (End x o) → r .taken ≡ 0) l (by-value.end-takes-nothing es ps d s)
+module _ (es ps : List ℕ) (d : TagDecoder) (s : List ℕ) (byte : Octets s) {r : Said} {e : TagDecoder} where
+  pub decode-told : Leaves r e (apart (decode es ps d s)) → LentTold d (settled es ps d s byte) (length s) r e
+  decode-told = told-lent (by-value.decode-told es ps d s byte)
+
+  pub eof-told : Leaves r e (apart (decodeEof es ps d s)) → LentTold d (settled es ps d s byte) (length s) r e
+  eof-told = told-lent (by-value.eof-told es ps d s byte)
+
+-- ---- one recovery
 
 module _ (es ps : List ℕ) (d : TagDecoder) (s : List ℕ) {r : Searched} {e : TagDecoder} (l : Leaves r e (searchApart (tryRecover es ps d s))) where
   pub recovery-within : Octets s → r .taken ≤ length s

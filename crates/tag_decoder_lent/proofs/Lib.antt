@@ -3,4 +3,5 @@ pub mod LentCall
 pub mod LentLocal
 pub mod LentLook
 pub mod LentSteps
+pub mod RuledOut
 pub mod Unique

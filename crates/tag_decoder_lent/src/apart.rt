@@ -25,18 +25,18 @@ pub fn said_of(a: Decoded) -> Said
 }
 
 // The same two of a recovery.
-pub fn recovered_of(a: Recovered) -> TagDecoder
-    ensures { λ r. ⌜ r ≡ a .state ⌝ }
+pub fn recovered_of(b: Recovered) -> TagDecoder
+    ensures { λ r. ⌜ r ≡ b .state ⌝ }
 {
-    a.state
+    b.state
 }
 
-pub fn searched_of(a: Recovered) -> Searched
-    ensures { λ r. ⌜ r ≡ searched a ⌝ }
+pub fn searched_of(b: Recovered) -> Searched
+    ensures { λ r. ⌜ r ≡ searched b ⌝ }
 {
-    let answer = a.answer;
+    let answer = b.answer;
     Searched {
         answer,
-        taken: a.taken,
+        taken: b.taken,
     }
 }

@@ -27,8 +27,8 @@ pub fn decode_eof(d: &mut TagDecoder, entries: &[u64], parts: &[u64], input: &[u
 {
     let record = *d;
     let answer = tag_decoder::calls::decode_eof(entries, parts, record, input);
-    let next = record_of(answer);
-    *d = next;
+    let last = record_of(answer);
+    *d = last;
     said_of(answer)
 }
 
@@ -38,7 +38,7 @@ pub fn try_recover(d: &mut TagDecoder, entries: &[u64], parts: &[u64], input: &[
 {
     let record = *d;
     let answer = tag_decoder::recovery::try_recover(entries, parts, record, input);
-    let next = recovered_of(answer);
-    *d = next;
+    let after = recovered_of(answer);
+    *d = after;
     searched_of(answer)
 }

@@ -10,16 +10,16 @@ pub fn allow_errors(d: &mut TagDecoder, ids: bool, hierarchy: bool, oversized: b
     ensures { λ _. ⌜ now (d .exit) ≡ allowing (now (d .entry)) ids hierarchy oversized ⌝ }
 {
     let record = *d;
-    let next = tag_decoder::settings::allow_errors(record, ids, hierarchy, oversized);
-    *d = next;
+    let allowed = tag_decoder::settings::allow_errors(record, ids, hierarchy, oversized);
+    *d = allowed;
 }
 
 pub fn set_max_allowable_tag_size(d: &mut TagDecoder, size: Given)
     ensures { λ _. ⌜ now (d .exit) ≡ limitedTo (now (d .entry)) size ⌝ }
 {
     let record = *d;
-    let next = tag_decoder::settings::set_max_allowable_tag_size(record, size);
-    *d = next;
+    let limited = tag_decoder::settings::set_max_allowable_tag_size(record, size);
+    *d = limited;
 }
 
 pub fn position(d: &TagDecoder) -> u64
