@@ -1,7 +1,7 @@
 -- A turn, over either call: the walk that `turn` and `turn_eof` share. The record stands in a local. It is lent by `&mut` to the call and comes back at the
 -- record that the call left; then by `&` to `position`; then what there is is gathered. What differs is bound in front: the call and its definition.
 -- Assumes nothing.
-use mathlib.Core.Path.{_≡_, refl, sym, ap, _∙_}
+use mathlib.Core.Path.{_≡_, refl, ap, _∙_}
 use Prim.Native.Nat.{ℕ}
 use mathlib.Core.List.{[], _∷_, List}
 use lib.ListN.{length}
@@ -41,13 +41,13 @@ use Rattle.decoder_state.specs.declared.types.Decoded.{Decoded}
 use Rattle.decoder_state.specs.declared.types.TagDecoder.{TagDecoder}
 use Rattle.decoder_state.proofs.types.TagDecoder as T
 use Rattle.decoder_state.proofs.types.TagDecoder.Laws as T′
-use Rattle.tag_decoder_lent.specs.Lent.{Leaves, said, apart}
+use Rattle.tag_decoder_lent.specs.Lent.{Leaves, apart}
 use Rattle.tag_decoder_lent.specs.declared.types.Said.{Said}
 use Rattle.tag_decoder_lent.proofs.types.Said as S
 use Rattle.tag_decoder_lent.proofs.types.Said.Laws as S′
 use Rattle.tag_decoder_lent.proofs.settings.position.Symbol as position-def
 use Rattle.tag_decoder_lent.proofs.LentCall.{lending, lent}
-use Rattle.tag_decoder_lent.proofs.LentLocal.{Local, at-local, MutTo, ShrTo, MutKept, ShrKept, Last, lends-record, record-back, shows-record, shown-back, told-left}
+use Rattle.tag_decoder_lent.proofs.LentLocal.{at-local, Last, lends-record, record-back, shows-record, shown-back, told-left}
 use Rattle.tag_decoder_lent.proofs.LentLook.{looking, told-of}
 use Rattle.tag_decoder_lent.proofs.LentSteps.{machine, calls-saying, told}
 use Rattle.lent_lists.specs.Turn.{turnOf, gathered}

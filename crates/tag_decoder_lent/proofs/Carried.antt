@@ -14,7 +14,7 @@ use Rattle.decoder_state.specs.declared.types.Search.the-variants as search
 use Rattle.decoder_state.specs.declared.types.TagDecoder.{TagDecoder}
 use Rattle.tag_decoder.proofs.Told as by-value
 use Rattle.tag_decoder.proofs.Told.{CallTold, settled}
-use Rattle.tag_decoder_lent.specs.Lent.{Leaves, said, apart, searched, searchApart}
+use Rattle.tag_decoder_lent.specs.Lent.{Leaves, apart, searchApart}
 use Rattle.tag_decoder_lent.specs.declared.types.Said.{Said}
 use Rattle.tag_decoder_lent.specs.declared.types.Searched.{Searched}
 

@@ -1,7 +1,7 @@
 -- Two ways to store the wrong record, each against the contract of `decode`: a record that stays as it was where more is needed, so that the settling note is
 -- lost, and a record that stays as it was after an event. Computed from the definitions. Assumes nothing.
 use Prim.Native.Nat.{ℕ}
-use mathlib.Core.Bool.{Bool, true, false}
+use mathlib.Core.Bool.{true, false}
 use mathlib.Core.Path.{_≡_, refl, ap, _∙_}
 use mathlib.Core.List.{List, [], _∷_}
 use native.Mathlib.Omega.{arith}
@@ -23,7 +23,7 @@ use Rattle.decoder_state.specs.declared.types.Answer.the-variants.{NeedMore, Ev
 use Rattle.decoder_state.specs.declared.types.Event.the-variants.{Start}
 use Rattle.decoder_state.specs.declared.types.TagDecoder.{TagDecoder}
 use Rattle.decoder_state.proofs.Starred.{entries, parts}
-use Rattle.tag_decoder_lent.specs.Lent.{Leaves, said, apart}
+use Rattle.tag_decoder_lent.specs.Lent.{Leaves, apart}
 use Rattle.tag_decoder_lent.specs.declared.types.Said.{Said}
 
 -- an Amount without its payload, and a Session's start

@@ -14,7 +14,6 @@ use denote.Triple.Entry.{Args, Res}
 use denote.Triple.Clauses.{Ended, Clauses, Lasts, atExit}
 use Rattle.tools.proofs.Unique.{same}
 use Rattle.decoder_state.specs.declared.types.TagDecoder.{TagDecoder}
-use Rattle.tag_decoder_lent.specs.Lent.{Leaves}
 use Rattle.tag_decoder_lent.proofs.calls.decode as decode
 use Rattle.tag_decoder_lent.proofs.calls.decode_eof as decode-eof
 use Rattle.tag_decoder_lent.proofs.calls.try_recover as try-recover

@@ -1,5 +1,4 @@
 -- A call on a lent record: what it returns, and the record that it leaves, are the two parts of the answer by value.
-use Prim.Native.Nat.{ℕ}
 use mathlib.Core.Path.{_≡_}
 use Rattle.decoder_state.specs.declared.types.Decoded.{Decoded}
 use Rattle.decoder_state.specs.declared.types.Recovered.{Recovered}
