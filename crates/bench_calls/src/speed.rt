@@ -32,7 +32,14 @@ const REFUSED: u64 = 3;
 // No run has so many events; with it the loops end for any table and any stream.
 const MOST_EVENTS: u64 = 0x1000_0000_0000_0000;
 
-// How many bytes are there once the next chunk has come; a chunk of 0 is all.
+// How many bytes are there at the first call: none, or all where there are no chunks.
+fn first_fed(chunk: usize, n: usize) -> usize
+    ensures { λ r. ⌜ r ≤ n ⌝ }
+{
+    if chunk == 0 { n } else { 0 }
+}
+
+// How many bytes are there once the next chunk has come.
 fn next_fed(fed: usize, chunk: usize, n: usize) -> usize
     requires { ⌜ fed < n ⌝ }
     ensures { λ r. ⌜ (fed < r) × (r ≤ n) ⌝ }
@@ -64,13 +71,13 @@ fn ran(state: TagDecoder, at: usize, events: u64, sum: u64, last: u64) -> Run
     }
 }
 
-// Up to the last byte of the stream, or to a refusal. The first call lends no byte.
+// Up to the last byte of the stream, or to a refusal.
 fn run_fed(entries: &[u64], parts: &[u64], stream: &[u8], chunk: usize) -> Run
     ensures { λ r. ⌜ (r .at ≤ length (now (stream .entry))) × (r .events ≤ 0x1000_0000_0000_0000) ⌝ }
 {
     let mut d = new();
     let mut at: usize = 0;
-    let mut fed: usize = 0;
+    let mut fed = first_fed(chunk, stream.len());
     let mut events: u64 = 0;
     let mut sum: u64 = 0;
     while events < MOST_EVENTS {

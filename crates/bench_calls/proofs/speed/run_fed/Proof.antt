@@ -17,6 +17,9 @@ abbrev μ-loop : tie.MeasureT-loop
 new-requires : tie.Need-new-requires Inv-loop μ-loop
 new-requires c κs = search needs
 
+first-fed-requires : tie.Need-first-fed-requires Inv-loop μ-loop
+first-fed-requires c κs = search needs
+
 loop-holds : tie.Need-loop-holds Inv-loop μ-loop
 loop-holds c = search needs
 
@@ -99,6 +102,7 @@ run-fed-spec =
     Inv-loop
     μ-loop
     new-requires
+    first-fed-requires
     loop-holds
     sub-call
     part-call-start
