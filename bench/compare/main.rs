@@ -1,6 +1,6 @@
-//! Usage: compare FOLDER NAME..
-//! Compares FOLDER/NAME.ours with FOLDER/NAME.rust, the answers to FOLDER/NAME.calls, line by line, and prints counts.
-//! The result is 1 if a difference is not a listed one.
+//! Usage: compare [--kinds] FOLDER NAME..
+//! Compares FOLDER/NAME.ours with FOLDER/NAME.rust, the answers to FOLDER/NAME.calls, line by line, and prints counts; with --kinds also
+//! how often each kind of call had each kind of answer. The result is 1 if a difference is not a listed one.
 
 use judging::calls::{answers, calls};
 use judging::listed::{Expected, Listing};
@@ -18,11 +18,14 @@ struct Counts {
     equal: u64,
     listed: BTreeMap<&'static str, u64>,
     unlisted: BTreeMap<String, u64>,
+    /// by the call's name, then by the kind of our answer
+    kinds: BTreeMap<String, BTreeMap<String, u64>>,
 }
 
 fn main() -> io::Result<ExitCode> {
-    let mut arguments = env::args().skip(1);
-    let folder = PathBuf::from(arguments.next().expect("usage: compare FOLDER NAME.."));
+    let mut arguments = env::args().skip(1).peekable();
+    let with_kinds = arguments.next_if(|word| word == "--kinds").is_some();
+    let folder = PathBuf::from(arguments.next().expect("usage: compare [--kinds] FOLDER NAME.."));
     let mut total = Counts::default();
     for name in arguments {
         let counts = compare(&folder, &name)?;
@@ -30,6 +33,9 @@ fn main() -> io::Result<ExitCode> {
         total.add(counts);
     }
     total.print("total");
+    if with_kinds {
+        total.print_kinds();
+    }
     Ok(if total.unlisted.is_empty() {
         ExitCode::SUCCESS
     } else {
@@ -56,6 +62,7 @@ fn compare(folder: &Path, name: &str) -> io::Result<Counts> {
 impl Counts {
     fn judge(&mut self, expected: Expected, call: &str, rust: &str, ours: &str) {
         self.calls += 1;
+        *self.kinds.entry(name(call)).or_default().entry(kind(ours)).or_default() += 1;
         match expected {
             Expected::Same if ours == rust => self.equal += 1,
             Expected::Listed { kind, ours: wanted } if ours == wanted => *self.listed.entry(kind).or_default() += 1,
@@ -83,6 +90,21 @@ impl Counts {
         for (kind, count) in other.unlisted {
             *self.unlisted.entry(kind).or_default() += count;
         }
+        for (name, kinds) in other.kinds {
+            let sums = self.kinds.entry(name).or_default();
+            for (kind, count) in kinds {
+                *sums.entry(kind).or_default() += count;
+            }
+        }
+    }
+
+    fn print_kinds(&self) {
+        println!("by kind of call and of our answer:");
+        for (name, kinds) in &self.kinds {
+            let sum: u64 = kinds.values().sum();
+            let kinds: Vec<String> = kinds.iter().map(|(kind, count)| format!("{kind} {count}")).collect();
+            println!("  {name}: {sum} = {}", kinds.join(", "));
+        }
     }
 
     fn print(&self, name: &str) {
@@ -101,12 +123,22 @@ impl Counts {
     }
 }
 
+/// The calls of the format page by their names; every other line is no call.
 fn name(call: &str) -> String {
-    words(call, if call.starts_with("g ") { 2 } else { 1 })
+    let name = words(call, if call.starts_with("g ") { 2 } else { 1 });
+    let is_name = name.len() <= "g recover".len() && name.chars().all(|c| c.is_ascii_lowercase() || c == ' ');
+    if is_name { name } else { "(no call)".to_string() }
 }
 
+/// The letter of an answer, the number of a refusal; numbers alone are one kind, but for the two of a test.
 fn kind(answer: &str) -> String {
-    words(answer, if answer.starts_with("X ") { 2 } else { 1 })
+    let kind = words(answer, if answer.starts_with("X ") { 2 } else { 1 });
+    let is_number = kind.bytes().all(|byte| byte.is_ascii_digit());
+    match kind.parse::<u64>() {
+        Ok(n) if is_number && n >= 256 => format!("256+{}", n - 256),
+        Ok(n) if is_number && n > 1 => "n".to_string(),
+        _ => kind,
+    }
 }
 
 fn words(text: &str, count: usize) -> String {
