@@ -207,3 +207,18 @@ module _ (es ps : List ℕ) (d : TagDecoder) (s u : List ℕ) (byte : Octets (s 
   asked-again q =
       let a = decide es ps d s in
       rw (more-stays (noted ps d (a .note)) (a .action) q) (again (a .note) refl)
+
+more-takes : (e : TagDecoder) (a : Action) → move e a .answer ≡ answer.NeedMore → move e a .taken ≡ 0
+unfolding move
+more-takes e (act.Refuse x) q = refl
+more-takes e act.NeedMore q = refl
+more-takes e act.Finish q = refl
+more-takes e act.HandOut q = refl
+more-takes e (act.Close k) q = refl
+more-takes e (act.Start x y l) q = let z : _≡_ {A = ℕ} 0 1 = cc in absurd (no-answer z)
+more-takes e (act.Data x v m) q = let z : _≡_ {A = ℕ} 0 1 = cc in absurd (no-answer z)
+
+-- and it takes nothing
+pub asked-takes-none : (es ps : List ℕ) (d : TagDecoder) (s : List ℕ) → decode es ps d s .answer ≡ answer.NeedMore → decode es ps d s .taken ≡ 0
+unfolding apply
+asked-takes-none es ps d s q = more-takes (noted ps d (decide es ps d s .note)) (decide es ps d s .action) q

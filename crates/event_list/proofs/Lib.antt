@@ -1,7 +1,9 @@
+pub mod AnyReads
 pub mod Buffers
 pub mod Cuts
 pub mod Digits
 pub mod Examples
+pub mod Filling
 pub mod Finishing
 pub mod Putting
 pub mod ReadBack

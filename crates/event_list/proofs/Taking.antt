@@ -93,7 +93,7 @@ over-asks-no-more d s q =
     let r = decode benchEntries benchParts d s in
     eof-asks (tableOf benchEntries benchParts) s r (r .answer) refl q
 
-reads-on : (a : Answer) (n room : ℕ) → nextOf a n room ≡ Read → a ≡ answer.NeedMore
+pub reads-on : (a : Answer) (n room : ℕ) → nextOf a n room ≡ Read → a ≡ answer.NeedMore
 reads-on (answer.Event e) n room q = absurd (let z : _≡_ {A = ℕ} 0 1 = cc in no-answer z)
 reads-on answer.NeedMore n room q = refl
 reads-on answer.Finished n room q = absurd (let z : _≡_ {A = ℕ} 0 1 = cc in no-answer z)

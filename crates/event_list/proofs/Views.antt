@@ -23,7 +23,7 @@ use Rattle.event_list.proofs.Finishing.{never-finished}
 
 -- ---- what the next answer is, by how much is still to come
 
-seen-all : (size : ℕ) (d : TagDecoder) (s : List ℕ) → length s < size → nextAnswer size d s ≡ decodeEof benchEntries benchParts d s
+pub seen-all : (size : ℕ) (d : TagDecoder) (s : List ℕ) → length s < size → nextAnswer size d s ≡ decodeEof benchEntries benchParts d s
 unfolding nextAnswer
 seen-all size d s h = rw (lt-ltb _ _ h)
 

@@ -4,3 +4,4 @@ pub mod BenchTable
 pub mod Puts
 pub mod Reading
 pub mod Whole
+pub mod Run
