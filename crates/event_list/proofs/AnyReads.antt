@@ -30,7 +30,7 @@ use Rattle.event_list.specs.declared.types.Listing.{Listing}
 use Rattle.event_list.specs.declared.types.Next.{Next}
 use Rattle.event_list.specs.declared.types.Next.the-variants.{Line, Last, Read}
 use Rattle.event_list.proofs.Cuts.{octets-front, asked-takes-none}
-use Rattle.event_list.proofs.Filling.{length-unread, unread-fits, unread-after, size-is, rest-is, pieces-some, unread-is, decoder-is, ended-only}
+use Rattle.event_list.proofs.Filling.{length-unread, unread-fits, unread-after, unread-front, size-is, rest-is, pieces-some, unread-is, decoder-is, ended-only}
 use Rattle.event_list.proofs.Finishing.{finished-kept}
 use Rattle.event_list.proofs.Taking.{call-takes, over-asks-no-more, reads-on}
 use Rattle.event_list.proofs.Views.{seen-all, view-answers, full-answers, asked-answers}
@@ -112,3 +112,226 @@ module _ (l : Listing) (b : List ℕ) (ps : List (List ℕ)) (s : List ℕ) (inv
       by : (x : Bool) → l .ended ≡ x → nextAnswer (length b) (l .decoder) s ≡ answered l b
       by true e = after-end e
       by false e = before e full
+
+-- ---- what follows from what is done next
+
+record IsEvent (a : Answer) : Type 0 where
+  e : Event
+  is : a ≡ answer.Event e
+
+never-line : (t : Bool) → cond t Read Last ≡ Line → ⊥
+never-line true q = let z : _≡_ {A = ℕ} 0 1 = cc in no-way z
+never-line false q = let z : _≡_ {A = ℕ} 0 1 = cc in no-way z
+
+line-event : (a : Answer) (n room : ℕ) → nextOf a n room ≡ Line → IsEvent a
+line-event (answer.Event x) n room q = record { e = x; is = refl }
+line-event answer.NeedMore n room q = absurd (never-line (ltb n room) q)
+line-event answer.Finished n room q = absurd (let z : _≡_ {A = ℕ} 0 1 = cc in no-way z)
+line-event (answer.Refused r) n room q = absurd (let z : _≡_ {A = ℕ} 0 1 = cc in no-way z)
+
+last-no-event : (a : Answer) (n room : ℕ) → nextOf a n room ≡ Last → (e : Event) → a ≡ answer.Event e → ⊥
+last-no-event (answer.Event x) n room q e h = let z : _≡_ {A = ℕ} 0 1 = cc in no-way z
+last-no-event answer.NeedMore n room q e h = let z : _≡_ {A = ℕ} 0 1 = cc in no-way z
+last-no-event answer.Finished n room q e h = let z : _≡_ {A = ℕ} 0 1 = cc in no-way z
+last-no-event (answer.Refused r) n room q e h = let z : _≡_ {A = ℕ} 0 1 = cc in no-way z
+
+last-full : (a : Answer) (n room : ℕ) → nextOf a n room ≡ Last → a ≡ answer.NeedMore → room ≤ n
+last-full a n room q h = go (decLe room n)
+  where
+    go : Dec (room ≤ n) → room ≤ n
+    go (yes l) = l
+    go (no f) =
+        let k : n < room = omega arith in
+        let r : Read ≡ Last = rw (h, lt-ltb n room k) at q in
+        absurd (let z : _≡_ {A = ℕ} 0 1 = cc in no-way z)
+
+read-space : (n room : ℕ) → nextOf answer.NeedMore n room ≡ Read → n < room
+read-space n room q = go (decLe room n)
+  where
+    go : Dec (room ≤ n) → n < room
+    go (yes l) = let r : Last ≡ Read = rw (le-ltb n room l) at q in absurd (let z : _≡_ {A = ℕ} 0 1 = cc in no-way z)
+    go (no f) = omega arith
+
+-- ---- the invariant is kept
+
+module _ (l : Listing) (b : List ℕ) (ps : List (List ℕ)) (s : List ℕ) (inv : Inv l b ps s) where
+  abbrev r : Decoded
+  r = answered l b
+
+  taken-fits : r .taken ≤ length (unread l b)
+  taken-fits = call-takes (l .ended) (l .decoder) (unread l b) (octets-unread l b ps s inv)
+
+  unread-then : unread (turn l b .listing) b ≡ drop (r .taken) (unread l b)
+  unfolding turn
+  unread-then = unread-after l b (r .state) (r .taken) (l .ended) (rw (length-unread l b) at taken-fits)
+
+  long : length (unread l b) ≤ length s
+  long = rw (inv .whole) (omega (arith, length-append (unread l b) (joined ps)))
+
+  -- before the end: the record that a call leaves
+  still-then : l .ended ≡ false → Still (r .state) (drop (r .taken) s)
+  still-then f =
+      let st = inv .still f in
+      let same = called-before (l .ended) (l .decoder) (unread l b) f in
+      let near = st .near in
+      let h = taken-fits in
+      let k = long in
+      record {
+        open-still = rw same (finished-kept benchEntries benchParts (l .decoder) (unread l b)) ∙ st .open-still;
+        near =
+            let m : r .state .position ≡ l .decoder .position + r .taken = rw same (moves-on benchEntries benchParts (l .decoder) (unread l b)) in
+            omega (arith, length-drop (r .taken) s);
+      }
+
+  inv-line : Inv (turn l b .listing) b ps (drop (r .taken) s)
+  unfolding turn
+  inv-line =
+      record {
+        whole = rw (inv .whole) (drop-append-le (r .taken) (unread l b) (joined ps) taken-fits) ∙ ap (λ (x : List ℕ). x ++ joined ps) (sym unread-then);
+        some = inv .some;
+        byte = octets-drop (r .taken) s (inv .byte);
+        still = still-then;
+        over = λ t. record { none-left = inv .over t .none-left; space = let h = inv .over t .space in omega (arith, length-drop (r .taken) s) };
+      }
+
+-- ---- a read
+
+-- after a read into a buffer that is K: the invariant, the buffer's size and the decoder
+record AfterRead (K : Listing × List ℕ) (ps : List (List ℕ)) (s b : List ℕ) (d : TagDecoder) : Type 0 where
+  inv : Inv (filled K ps .at) (filled K ps .buffer) (filled K ps .pieces) s
+  size : length (filled K ps .buffer) ≡ length b
+  same : filled K ps .at .decoder ≡ d
+
+kept-form : (l : Listing) (b : List ℕ) → kept l b ≡ (listing (l .decoder) 0 (length (unread l b)) (l .ended), unread l b ++ drop (length (unread l b)) b)
+unfolding kept
+kept-form l b = rw (length-unread l b)
+
+module _ (d : TagDecoder) (u w : List ℕ) (e : Bool) (ps : List (List ℕ)) (s b : List ℕ) (space : 0 < length w) (size : length (u ++ w) ≡ length b)
+    (some : NoneEmpty ps) (whole : s ≡ u ++ joined ps) (byte : Octets s) (on : e ≡ false) (still : Still d s) where
+  after-read : AfterRead (listing d 0 (length u) e, u ++ w) ps s b d
+  after-read =
+      record {
+        inv =
+            record {
+              whole = whole ∙ sym (rest-is d u w e ps space some) ∙ ap (λ (x : List ℕ). x ++ joined (filled (listing d 0 (length u) e, u ++ w) ps .pieces)) (sym (unread-is d u w e ps space some));
+              some = pieces-some d u w e ps space some;
+              byte = byte;
+              still = λ f. rw (decoder-is d u w e ps space some) still;
+              over =
+                  λ t.
+                  let gone = ended-only d u w e ps space some on t in
+                  let all : s ≡ u = whole ∙ ap (λ (x : List ℕ). u ++ x) (gone .0) ∙ append-nil u in
+                  record { none-left = gone .1; space = rw (size-is d u w e ps space some, all) (omega (arith, length-append u w)) };
+            };
+        size = size-is d u w e ps space some ∙ size;
+        same = decoder-is d u w e ps space some;
+      }
+
+module _ (l : Listing) (b : List ℕ) (ps : List (List ℕ)) (s : List ℕ) (inv : Inv l b ps s) (q : turn l b .next ≡ Read) where
+  asks : answered l b .answer ≡ answer.NeedMore
+  unfolding turn
+  asks = reads-on (answered l b .answer) (unreadCount l b) (length b) q
+
+  not-over : l .ended ≡ false
+  not-over = by (l .ended) refl
+    where
+      by : (x : Bool) → l .ended ≡ x → l .ended ≡ false
+      by true e = absurd (over-asks-no-more (l .decoder) (unread l b) (ap (λ (y : Bool). called y (l .decoder) (unread l b) .answer) (sym e) ∙ asks))
+      by false e = e
+
+  room-left : unreadCount l b < length b
+  unfolding turn
+  room-left = read-space (unreadCount l b) (length b) (rw asks at q)
+
+  same-call : answered l b ≡ decode benchEntries benchParts (l .decoder) (unread l b)
+  same-call = called-before (l .ended) (l .decoder) (unread l b) not-over
+
+  asks-decode : decode benchEntries benchParts (l .decoder) (unread l b) .answer ≡ answer.NeedMore
+  asks-decode = ap (λ (x : Decoded). x .answer) (sym same-call) ∙ asks
+
+  takes-none : answered l b .taken ≡ 0
+  takes-none = ap (λ (x : Decoded). x .taken) same-call ∙ asked-takes-none benchEntries benchParts (l .decoder) (unread l b) asks-decode
+
+  stays-unread : unread (turn l b .listing) b ≡ unread l b
+  stays-unread = unread-then l b ps s inv ∙ ap (λ (n : ℕ). drop n (unread l b)) takes-none
+
+  read-inv : AfterRead (kept (turn l b .listing) b) ps s b (answered l b .state)
+  unfolding turn
+  read-inv =
+      let L = turn l b .listing in
+      let n : length (unread L b) ≡ unreadCount l b = ap length stays-unread ∙ length-unread l b in
+      let h = room-left in
+      let st = still-then l b ps s inv not-over in
+      let none = takes-none in
+      rw (kept-form L b)
+      (after-read (answered l b .state) (unread L b) (drop (length (unread L b)) b) (l .ended) ps s b
+      (rw length-drop (omega arith))
+      (length-append (unread L b) (drop (length (unread L b)) b) ∙ rw length-drop (omega arith))
+      (inv .some)
+      (inv .whole ∙ ap (λ (x : List ℕ). x ++ joined ps) (sym stays-unread))
+      (inv .byte)
+      not-over
+      (rw takes-none at st))
+
+  -- the whole has the same next answer after the call
+  same-next : nextAnswer (length b) (answered l b .state) s ≡ nextAnswer (length b) (l .decoder) s
+  same-next =
+      let st = inv .still not-over in
+      let byte' : Octets (unread l b ++ joined ps) = rw (inv .whole) at (inv .byte) in
+      let near' : l .decoder .position + length (unread l b ++ joined ps) ≤ 2 ^ 62 = rw (inv .whole) at (st .near) in
+      rw (inv .whole, same-call)
+      (asked-answers (length b) (l .decoder) (unread l b) (joined ps) (held l b ps s inv) byte' (st .open-still) near' asks-decode)
+
+  read-case : {text : List ℕ}
+      → (Inv (filled (kept (turn l b .listing) b) ps .at) (filled (kept (turn l b .listing) b) ps .buffer) (filled (kept (turn l b .listing) b) ps .pieces) s
+      → Lists (length (filled (kept (turn l b .listing) b) ps .buffer)) (nextAnswer (length (filled (kept (turn l b .listing) b) ps .buffer)) (filled (kept (turn l b .listing) b) ps .at .decoder) s) s text)
+      → Lists (length b) (nextAnswer (length b) (l .decoder) s) s text
+  read-case k =
+      let a = read-inv in
+      rw same-next at (rw (a .size, a .same) at (k (a .inv)))
+
+-- ---- the theorem
+
+-- a run that prints its last line has printed the list of what was still to come
+prints-lists : {l : Listing} {b : List ℕ} {ps : List (List ℕ)} {text : List ℕ} → Prints l b ps text → (s : List ℕ) → Inv l b ps s
+    → Lists (length b) (nextAnswer (length b) (l .decoder) s) s text
+unfolding turn
+prints-lists (a-line l b ps q p) s inv =
+    let ev = line-event (answered l b .answer) (unreadCount l b) (length b) q in
+    let same = answers l b ps s inv (λ m. absurd (let e = ev .is in let z : _≡_ {A = ℕ} 0 1 = cc in no-way z)) in
+    rw same (goes-on (answered l b) s (ev .is) (prints-lists p (drop (answered l b .taken) s) (inv-line l b ps s inv)))
+prints-lists (the-last l b ps q) s inv =
+    let full : answered l b .answer ≡ answer.NeedMore → length b ≡ length (unread l b) =
+    λ m. let h = last-full (answered l b .answer) (unreadCount l b) (length b) q m in omega (arith, length-unread l b, unread-fits l b) in
+    rw (answers l b ps s inv full) (ends (answered l b) s (last-no-event (answered l b .answer) (unreadCount l b) (length b) q))
+prints-lists (a-read l b ps q p) s inv = read-case l b ps s inv q (λ i. prints-lists p s i)
+
+-- from the start: a run with a buffer of so many zero bytes, on an input of at most 2^62 bytes in any pieces, prints the list of the input
+pub any-reads : (size : ℕ) (ps : List (List ℕ)) {text : List ℕ} → NoneEmpty ps → Octets (joined ps) → length (joined ps) ≤ 2 ^ 62
+    → Prints started (replicate size 0) ps text → ListOf size (joined ps) text
+any-reads size ps some byte few run =
+    let inv : Inv started (replicate size 0) ps (joined ps) =
+    record {
+      whole = ap (λ (x : List ℕ). x ++ joined ps) (sym nothing-yet);
+      some = some;
+      byte = byte;
+      still = λ f. record { open-still = refl; near = omega arith };
+      over = λ t. absurd (false≢true t);
+    } in
+    rw (length-replicate {A = ℕ} size 0) at (prints-lists run (joined ps) inv)
+  where
+    nothing-yet : unread started (replicate size 0) ≡ []
+    nothing-yet = unread-front fresh [] (replicate size 0) 0 false refl
+
+-- an input has one list, so however it is cut a run that comes to its end prints the same
+pub one-list : (size : ℕ) {r : Decoded} {s text other : List ℕ} → Lists size r s text → Lists size r s other → text ≡ other
+one-list size (goes-on r s q p) (goes-on r' s' q' p') = ap (λ (t : List ℕ). line (r' .answer) (r' .state .position) ++ t) (one-list size p p')
+one-list size (goes-on r s q p) (ends r' s' n) = absurd (n _ q)
+one-list size (ends r s n) (goes-on r' s' q p) = absurd (n _ q)
+one-list size (ends r s n) (ends r' s' n') = refl
+
+-- two runs on the same input, however each is cut, print the same
+pub same-however-cut : (size : ℕ) (ps qs : List (List ℕ)) {text other : List ℕ} → joined ps ≡ joined qs → NoneEmpty ps → NoneEmpty qs → Octets (joined ps)
+    → length (joined ps) ≤ 2 ^ 62 → Prints started (replicate size 0) ps text → Prints started (replicate size 0) qs other → text ≡ other
+same-however-cut size ps qs e somep someq byte few run run' =
+    one-list size (rw e at (any-reads size ps somep byte few run)) (any-reads size qs someq (rw e at byte) (rw e at few) run')

@@ -24,64 +24,38 @@ use Rattle.decoder_state.specs.OneCall.{goodOpen, goodState, refused12, refused
 use Rattle.event_list.specs.Line as lines
 use Rattle.event_list.specs.Numeral.{digits, places, hex, hex16, decimal, signedDecimal}
 use Rattle.event_list.specs.Reading.{started, unread, called, turn, kept, afterRead}
+use Rattle.event_list.specs.Run.{Stage, filled}
 use Rattle.event_list.specs.declared.types.Listing.{Listing}
 use Rattle.event_list.specs.declared.types.Next.{Next}
 use Rattle.event_list.specs.declared.types.Next.the-variants.{Line, Last, Read}
 use Rattle.event_list.specs.declared.types.Turn.{Turn}
 
--- ---- a run of the program on an input that comes in pieces
+-- ---- a run of the program, computed: at most n steps of it
 
--- where the run stands: its listing, its buffer, the pieces to come, whether the last line is printed, and what is printed at this step
-pub record Stage : Type 0 where
-  pub at : Listing
-  pub buffer : List ℕ
-  pub pieces : List (List ℕ)
-  pub over : Bool
-  pub text : List ℕ
+abbrev pub isLast : Next → Bool
+isLast Line = false
+isLast Last = true
+isLast Read = false
 
--- a read of at most n bytes gives the front of the next piece; none is left at the end
-abbrev pub taken : ℕ → List (List ℕ) → List ℕ
-taken n [] = []
-taken n (p ∷ ps) = take n p
+abbrev pub textOf : Next → Turn → List ℕ
+textOf Line t = lines.line (t .answer) (t .listing .decoder .position)
+textOf Last t = lines.line (t .answer) (t .listing .decoder .position)
+textOf Read t = []
 
-abbrev pub unless-none : List ℕ → List (List ℕ) → List (List ℕ)
-unless-none [] ps = ps
-unless-none (x ∷ p) ps = (x ∷ p) ∷ ps
+abbrev pub after : Next → Turn → Stage → Stage
+after Line t s = record { at = t .listing; buffer = s .buffer; pieces = s .pieces }
+after Last t s = record { at = t .listing; buffer = s .buffer; pieces = s .pieces }
+after Read t s = filled (kept (t .listing) (s .buffer)) (s .pieces)
 
-abbrev pub left : ℕ → List (List ℕ) → List (List ℕ)
-left n [] = []
-left n (p ∷ ps) = unless-none (drop n p) ps
-
--- what was read stands behind the unread bytes
-abbrev pub reading : Listing × List ℕ → List (List ℕ) → Stage
-reading k ps =
-    let b = k .1 in
-    let n = length b - k .0 .upto in
-    let s = taken n ps in
-    record {
-      at = afterRead (length b) (k .0) (pos (length s));
-      buffer = take (k .0 .upto) b ++ s ++ drop (k .0 .upto + length s) b;
-      pieces = left n ps;
-      over = false;
-      text = [];
-    }
-
-abbrev pub after : Next → Turn → List ℕ → List (List ℕ) → Stage
-after Line t b ps = record { at = t .listing; buffer = b; pieces = ps; over = false; text = lines.line (t .answer) (t .listing .decoder .position) }
-after Last t b ps = record { at = t .listing; buffer = b; pieces = ps; over = true; text = lines.line (t .answer) (t .listing .decoder .position) }
-after Read t b ps = reading (kept (t .listing) b) ps
-
--- at most n steps
 unfoldable pub printed : ℕ → Stage → List ℕ
 printed zero s = []
 printed (suc n) s =
     let t = turn (s .at) (s .buffer) in
-    let next = after (t .next) t (s .buffer) (s .pieces) in
-    next .text ++ cond (next .over) [] (printed n next)
+    textOf (t .next) t ++ cond (isLast (t .next)) [] (printed n (after (t .next) t s))
 
 -- the list of an input that comes in these pieces, in a buffer of so many zero bytes
 abbrev pub list : ℕ → List (List ℕ) → List ℕ
-list size pieces = printed 32 (record { at = started; buffer = replicate size 0; pieces = pieces; over = false; text = [] })
+list size pieces = printed 32 (record { at = started; buffer = replicate size 0; pieces = pieces })
 
 -- ---- D1
 
@@ -136,5 +110,5 @@ examples =
     ∷ []
 
 pub all-examples : map (λ (p : List ℕ × List ℕ). p .0) examples ≡ map (λ (p : List ℕ × List ℕ). p .1) examples
-unfolding leadingZeros beFrom readVint arrToU64 fits rows firstFit textAfter every any goodPart goodParts goodEntry goodEntries goodShape onlyIds threes fours boundOf partOf sameBound samePart samePath kindOf isMaster clipped entryOf tableOf entryFor isIdOf hasId isTyped isParent isSibling isTypedRoot isEndedBy overMax underMin isIdAt walkGlobal walkAt walkPart unknownAndEnded walkMaster minMet walkEnd goOn walkFrom validateTagPath readTagId sizeOf tooLong sizedBy sized afterId readHeader readData endFor withOpen withWaiting withNotes settledTo opened closedTo handedOut goodOpen goodState refused12 refused13 isDone firstIndex closing noted step8 reaches step9 validHeader endedTops element elementOf step11 steps10-11 steps8-11 steps6-11 step5 steps4-11 steps2-11 decide move apply cutBytes isCut finish closeAll ended decodeEof digits places lines.element lines.rangeText lines.valueText lines.eventText lines.refusalText lines.positionText lines.answerText lines.line unread called turn kept afterRead printed
+unfolding leadingZeros beFrom readVint arrToU64 fits rows firstFit textAfter every any goodPart goodParts goodEntry goodEntries goodShape onlyIds threes fours boundOf partOf sameBound samePart samePath kindOf isMaster clipped entryOf tableOf entryFor isIdOf hasId isTyped isParent isSibling isTypedRoot isEndedBy overMax underMin isIdAt walkGlobal walkAt walkPart unknownAndEnded walkMaster minMet walkEnd goOn walkFrom validateTagPath readTagId sizeOf tooLong sizedBy sized afterId readHeader readData endFor withOpen withWaiting withNotes settledTo opened closedTo handedOut goodOpen goodState refused12 refused13 isDone firstIndex closing noted step8 reaches step9 validHeader endedTops element elementOf step11 steps10-11 steps8-11 steps6-11 step5 steps4-11 steps2-11 decide move apply cutBytes isCut finish closeAll ended decodeEof digits places lines.element lines.rangeText lines.valueText lines.eventText lines.refusalText lines.positionText lines.answerText lines.line unread called turn kept afterRead filled printed
 all-examples = refl

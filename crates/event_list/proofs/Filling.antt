@@ -160,11 +160,16 @@ module _ (d : TagDecoder) (u w : List ℕ) (e : Bool) (ps : List (List ℕ)) (sp
       go (yes h) = ap (λ (x : Listing). x .decoder) (at-some (λ z. omega arith))
       go (no f) = ap (λ (x : Listing). x .decoder) (at-none (omega arith))
 
-  pub ended-only : e ≡ false → stage .at .ended ≡ true → (u ++ v ≡ u) × (joined ps ≡ [])
+  pub ended-only : e ≡ false → stage .at .ended ≡ true → (joined ps ≡ []) × (joined (stage .pieces) ≡ [])
+  unfolding filled
   ended-only still q = go (decLe 1 (length v))
     where
-      go : Dec (1 ≤ length v) → (u ++ v ≡ u) × (joined ps ≡ [])
+      n : ℕ
+      n = length (u ++ w) - length u
+
+      go : Dec (1 ≤ length v) → (joined ps ≡ []) × (joined (left n ps) ≡ [])
       go (yes h) = absurd (false≢true (sym still ∙ sym (ap (λ (x : Listing). x .ended) (at-some (λ z. omega arith))) ∙ q))
       go (no f) =
           let z : length v ≡ 0 = omega arith in
-          (ap (λ (x : List ℕ). u ++ x) (no-elements v z) ∙ append-nil u, none-left (length (u ++ w) - length u) ps (omega (arith, room)) some z)
+          let none = none-left n ps (omega (arith, room)) some z in
+          (none, (rw (no-elements v z) at (given-joined n ps)) ∙ none)

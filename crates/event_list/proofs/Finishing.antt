@@ -62,7 +62,7 @@ data-other x n (payload.Refused e) = refuses _
 element-other : (p : ℕ) (h : TagHeader) (size : EBMLSize) (s : List ℕ) → Other (elementOf p h size s)
 unfolding elementOf element
 element-other p h Unknown s = refuses _
-element-other p h (Known n) s = either (ltb (length s) (h .len + n)) needs-more 
+element-other p h (Known n) s = either (ltb (length s) (h .len + n)) needs-more
     (data-other (h .id) (h .len + n) (readData (h .kind) (take n (drop (h .len) s)) (record { begin = p + h .len; end = p + (h .len + n) })))
 
 step11-other : (count p : ℕ) (h : TagHeader) (s : List ℕ) → Other (step11 count p h s)

@@ -69,6 +69,7 @@ module _ (size : ℕ) (d : TagDecoder) (u rest : List ℕ) (held : length u ≤ 
     where
       same : decode benchEntries benchParts d (u ++ more) ≡ decode benchEntries benchParts d u
       same = decode-local benchEntries benchParts d u more (octets-front u more octets-view 0) open-still near-view some
+
       go : Dec (size ≤ length (u ++ rest)) → nextAnswer size d (u ++ rest) ≡ decode benchEntries benchParts d u
       go (yes h) = seen-front size d (u ++ rest) h ∙ ap (decode benchEntries benchParts d) in-view ∙ same
       go (no f) =
@@ -94,8 +95,10 @@ module _ (size : ℕ) (d : TagDecoder) (u rest : List ℕ) (held : length u ≤ 
     where
       e : TagDecoder
       e = decode benchEntries benchParts d u .state
+
       same : decode benchEntries benchParts e (u ++ more) ≡ decode benchEntries benchParts d (u ++ more)
       same = asked-again benchEntries benchParts d u more octets-view open-still near-view q
+
       go : Dec (size ≤ length (u ++ rest)) → nextAnswer size e (u ++ rest) ≡ nextAnswer size d (u ++ rest)
       go (yes h) =
           seen-front size e (u ++ rest) h ∙ ap (decode benchEntries benchParts e) in-view ∙ same ∙ sym (seen-front size d (u ++ rest) h ∙ ap (decode benchEntries benchParts d) in-view)
