@@ -12,4 +12,5 @@ pub mod Cut
 pub mod Nested
 pub mod Night
 pub mod Demand3
+pub mod Seen
 pub mod Needed

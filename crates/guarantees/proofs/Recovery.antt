@@ -180,16 +180,16 @@ two-notes ps t s e (Settle path) left = rw (scan-settled ps t s (forward (noted 
 -- ---- the search
 
 -- a good record with a table of good shape is refused with 12 alone
-abbrev TooFar : Check → Type 0
+abbrev pub TooFar : Check → Type 0
 TooFar Pass = Unit {0}
 TooFar (Fail e) = errorNumber e ≡ 12
 
-only-far : (es ps : List ℕ) (d : TagDecoder) (n : ℕ) → goodShape es ps ≡ true → GoodState d → TooFar (refused12 es ps d n)
+pub only-far : (es ps : List ℕ) (d : TagDecoder) (n : ℕ) → goodShape es ps ≡ true → GoodState d → TooFar (refused12 es ps d n)
 unfolding refused12
 only-far es ps d n shape good = rw (shape, is-good-state d good) (pick TooFar (leb (d .position + n) (2 ^ 62)) Pass (Fail error.TooFar) (λ e. tt) (λ e. refl))
 
 -- a property of what one test picks twice
-pick-two : {A B : Type 0} (P : A → B → Type 0) (b : Bool) (x y : A) (u v : B) → (b ≡ true → P x u) → (b ≡ false → P y v) → P (cond b x y) (cond b u v)
+pub pick-two : {A B : Type 0} (P : A → B → Type 0) (b : Bool) (x y : A) (u v : B) → (b ≡ true → P x u) → (b ≡ false → P y v) → P (cond b x y) (cond b u v)
 pick-two P true x y u v f g = f refl
 pick-two P false x y u v f g = g refl
 
