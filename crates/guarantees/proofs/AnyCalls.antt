@@ -2,7 +2,7 @@
 -- on where the calls say so. Assumes nothing.
 use Prim.Native.Nat.{ℕ, _+_}
 use mathlib.Core.Path.{_≡_, refl, sym, ap, _∙_, subst}
-use mathlib.Core.Bool.{Bool, true, false, not, true≢false}
+use mathlib.Core.Bool.{Bool, true, false, not, true≢false, _||_}
 use mathlib.Core.List.{List, [], _∷_, _++_}
 use native.Mathlib.Omega.{arith}
 use lib.ListN.{length}
@@ -21,15 +21,19 @@ use Rattle.decoder_state.specs.declared.types.Given.the-variants.{Nothing, Numb
 use Rattle.decoder_state.specs.declared.types.Note.{Note}
 use Rattle.decoder_state.specs.declared.types.Note.the-variants.{NoNote, Settle}
 use Rattle.decoder_state.specs.declared.types.TagDecoder.{TagDecoder}
+use Rattle.decoder_decide.proofs.Judged.{cond-yes, cond-no}
 use Rattle.tag_decoder.specs.Settings.{withSettings, allowing, limitedTo}
-use Rattle.guarantees.specs.Calls.{Call, decoding, ending, recovering, allow, limit, lent, Told, answered, searched, silent, toldBy, next, impliedBy, scanNoteOr, noteOf, recordAfter, history, Lent}
-use Rattle.guarantees.specs.History.{Started, afterTold, startsOpen, leftBy, parentsLeft, takenBy, position, testAfter, childTestOn}
-use Rattle.guarantees.specs.Promises.{Runs}
 use Rattle.decoder_state.proofs.Kept.{opens-length}
+use Rattle.guarantees.specs.Calls.{Call, decoding, ending, recovering, allow, limit, lent, Told, answered, searched, silent, toldBy, next, recordAfter, history, Lent}
+use Rattle.guarantees.specs.Settling.{impliedBy, seenNote, isSettle, settledSeen, seenParents}
+use Rattle.guarantees.specs.History.{Started, afterTold, startsOpen, leftBy, parentsLeft, takenBy, position, testAfter, childTestOn}
+use Rattle.guarantees.specs.Promises.{Runs, leftAt}
+use Rattle.guarantees.proofs.Notes.{scanNoteOr, noteOf}
 use Rattle.guarantees.proofs.Decided.{NoteFacts, decide-facts}
 use Rattle.guarantees.proofs.Tied.{stack, Tied, fresh-tied}
 use Rattle.guarantees.proofs.Moves.{settings-linked}
-use Rattle.guarantees.proofs.Steps.{AnswerFacts, Measured, Batch, decode-called, eof-called}
+use Rattle.guarantees.proofs.Steps.{AnswerFacts, stack-length, unsettled-waiting, Measured, Batch, decode-called, eof-called}
+use Rattle.guarantees.proofs.Seen.{Began, next-settled, note-seen}
 use Rattle.guarantees.proofs.Recovery.{SearchFacts, scan-settled, recover-searched, recover-keeps}
 
 -- ---- what the check gives
@@ -57,13 +61,13 @@ BatchTold l p (answered a n) e = Batch l p a e
 BatchTold l p (searched a n) e = Unit {0}
 BatchTold l p silent e = Unit {0}
 
--- the promises of what the call c tells, and the invariant after it
+-- the promises of what the call c tells, and the invariant after it; left has the parents that c implies
 pub record After (es ps : List ℕ) (d : TagDecoder) (starts : List Started) (left : List ℕ) (p : ℕ) (c : Call) : Type 0 where
-  pub promised : ToldFacts (tableOf es ps) (d .«allow_oversized») (lent c) starts (impliedBy ps (noteOf es ps d c) ++ left) p (toldBy es ps d c)
+  pub promised : ToldFacts (tableOf es ps) (d .«allow_oversized») (lent c) starts left p (toldBy es ps d c)
   pub tied :
-      Tied (tableOf es ps) (next es ps d c) (afterTold (tableOf es ps) (lent c) (toldBy es ps d c) starts) (leftBy (toldBy es ps d c) starts (impliedBy ps (noteOf es ps d c) ++ left)) (p + takenBy (toldBy es ps d c))
+      Tied (tableOf es ps) (next es ps d c) (afterTold (tableOf es ps) (lent c) (toldBy es ps d c) starts) (leftBy (toldBy es ps d c) starts left) (p + takenBy (toldBy es ps d c))
   pub measured : MeasuredTold (tableOf es ps) (lent c) p (toldBy es ps d c)
-  pub batch : BatchTold (stack starts (impliedBy ps (noteOf es ps d c) ++ left)) p (toldBy es ps d c) (next es ps d c)
+  pub batch : BatchTold (stack starts left) p (toldBy es ps d c) (next es ps d c)
   -- the child-size test is on after it as the call says
   pub test : not (next es ps d c .«allow_oversized») ≡ testAfter c (not (d .«allow_oversized»))
 
@@ -89,7 +93,7 @@ module _ (es ps : List ℕ) (checked : checkTable es ps ≡ Passed) (d : TagDeco
   unfolding withSettings
   set-test ids hierarchy oversized = refl
 
-  pub after : (c : Call) → Octets (lent c) → After es ps d starts left p c
+  pub after : (c : Call) → Octets (lent c) → After es ps d starts (impliedBy ps (noteOf es ps d c) ++ left) p c
   unfolding impliedBy withSettings
   after (decoding s) byte =
       let c = decode-called es ps (good-shape es ps checked) (passed-gives es ps checked) d s byte starts left p k in
@@ -129,17 +133,72 @@ module _ (es ps : List ℕ) (checked : checkTable es ps ≡ Passed) (d : TagDeco
 
 -- ---- any calls
 
+both-true : (a b x y : Bool) → a ≡ true → b ≡ true → (a || x) ≡ (b || y)
+both-true a b x y p q = rw (p, q)
+
+-- the record after these calls is tied to what a caller can tell, and has settled where a caller can tell so
+record Known (es ps : List ℕ) (cs : List Call) : Type 0 where
+  tied : Tied (tableOf es ps) (recordAfter es ps cs) (startsOpen (tableOf es ps) (history es ps cs)) (parentsLeft ps (tableOf es ps) (history es ps cs)) (position (history es ps cs))
+  settled : recordAfter es ps cs .settled ≡ settledSeen ps (tableOf es ps) (history es ps cs)
+
+module _ (es ps : List ℕ) (checked : checkTable es ps ≡ Passed) (cs : List Call) (k : Known es ps cs) where
+  began : recordAfter es ps cs .settled ≡ false → Began (recordAfter es ps cs)
+  began u =
+      let d = recordAfter es ps cs in
+      let w = unsettled-waiting (tableOf es ps) d _ _ _ (k .tied .linked) u in
+      let l = stack-length (tableOf es ps) d _ _ _ (k .tied .linked) w in
+      record { unsettled = u; none-waiting = w; none-open = sym l ∙ ap length (k .tied .linked .unsettled u) }
+
+  -- the parents that a call implies are those that a caller can tell
+  parents-seen : (c : Call) → Octets (lent c)
+      → impliedBy ps (noteOf es ps (recordAfter es ps cs) c) ≡ seenParents ps (tableOf es ps) (history es ps cs) (lent c) (toldBy es ps (recordAfter es ps cs) c)
+  parents-seen c byte = go (recordAfter es ps cs .settled) refl
+    where
+      go : (b : Bool) → recordAfter es ps cs .settled ≡ b
+          → impliedBy ps (noteOf es ps (recordAfter es ps cs) c) ≡ seenParents ps (tableOf es ps) (history es ps cs) (lent c) (toldBy es ps (recordAfter es ps cs) c)
+      go true e = settled-implies-none es ps checked (recordAfter es ps cs) _ _ _ (k .tied) c byte e ∙ sym (cond-yes _ [] _ (sym (k .settled) ∙ e))
+      go false e = ap (impliedBy ps) (note-seen es ps (recordAfter es ps cs) (good-shape es ps checked) (k .tied .linked .good) (began e) c) ∙ sym (cond-no _ [] _ (sym (k .settled) ∙ e))
+
+  -- so what was proved of one call is proved of a call after these
+  after-these : (c : Call) → Octets (lent c)
+      → After es ps (recordAfter es ps cs) (startsOpen (tableOf es ps) (history es ps cs)) (leftAt es ps cs c) (position (history es ps cs)) c
+  after-these c byte =
+      subst (λ (l : List ℕ). After es ps (recordAfter es ps cs) (startsOpen (tableOf es ps) (history es ps cs)) (l ++ parentsLeft ps (tableOf es ps) (history es ps cs)) (position (history es ps cs)) c) (parents-seen c byte)
+      (after es ps checked (recordAfter es ps cs) _ _ _ (k .tied) c byte)
+
+  settled-next : (c : Call) → next es ps (recordAfter es ps cs) c .settled
+      ≡ (settledSeen ps (tableOf es ps) (history es ps cs) || isSettle (seenNote ps (tableOf es ps) (lent c) (toldBy es ps (recordAfter es ps cs) c)))
+  settled-next c = next-settled es ps (recordAfter es ps cs) c ∙ go (recordAfter es ps cs .settled) refl
+    where
+      go : (b : Bool) → recordAfter es ps cs .settled ≡ b
+          → (recordAfter es ps cs .settled || isSettle (noteOf es ps (recordAfter es ps cs) c))
+          ≡ (settledSeen ps (tableOf es ps) (history es ps cs) || isSettle (seenNote ps (tableOf es ps) (lent c) (toldBy es ps (recordAfter es ps cs) c)))
+      go true e =
+          both-true (recordAfter es ps cs .settled) (settledSeen ps (tableOf es ps) (history es ps cs)) (isSettle (noteOf es ps (recordAfter es ps cs) c)) (isSettle (seenNote ps (tableOf es ps) (lent c) (toldBy es ps (recordAfter es ps cs) c))) e
+          (sym (k .settled) ∙ e)
+      go false e =
+          ap (λ (b : Bool). b || isSettle (noteOf es ps (recordAfter es ps cs) c)) (k .settled)
+          ∙ ap (λ (x : Note). settledSeen ps (tableOf es ps) (history es ps cs) || isSettle x) (note-seen es ps (recordAfter es ps cs) (good-shape es ps checked) (k .tied .linked .good) (began e) c)
+
+known : (es ps : List ℕ) → checkTable es ps ≡ Passed → (cs : List Call) → Lent cs → Known es ps cs
+unfolding recordAfter history startsOpen parentsLeft position settledSeen Lent
+known es ps checked [] l = record { tied = fresh-tied (tableOf es ps); settled = refl }
+known es ps checked (c ∷ cs) l =
+    let k = known es ps checked cs (l .1) in
+    record { tied = after-these es ps checked cs k c (l .0) .tied; settled = settled-next es ps checked cs k c }
+
 pub tied-after : (es ps : List ℕ) → checkTable es ps ≡ Passed → (cs : List Call) → Lent cs
-    → Tied (tableOf es ps) (recordAfter es ps cs) (startsOpen (tableOf es ps) (history es ps cs)) (parentsLeft (tableOf es ps) (history es ps cs)) (position (history es ps cs))
-unfolding recordAfter history startsOpen parentsLeft position Lent
-tied-after es ps checked [] l = fresh-tied (tableOf es ps)
-tied-after es ps checked (c ∷ cs) l = after es ps checked _ _ _ _ (tied-after es ps checked cs (l .1)) c (l .0) .tied
+    → Tied (tableOf es ps) (recordAfter es ps cs) (startsOpen (tableOf es ps) (history es ps cs)) (parentsLeft ps (tableOf es ps) (history es ps cs)) (position (history es ps cs))
+tied-after es ps checked cs l = known es ps checked cs l .tied
+
+pub settled-after : (es ps : List ℕ) → checkTable es ps ≡ Passed → (cs : List Call) → Lent cs → recordAfter es ps cs .settled ≡ settledSeen ps (tableOf es ps) (history es ps cs)
+settled-after es ps checked cs l = known es ps checked cs l .settled
 
 -- so the promises hold of the last call
 pub promised-after : (es ps : List ℕ) (cs : List Call) (c : Call) → Runs es ps (c ∷ cs)
-    → After es ps (recordAfter es ps cs) (startsOpen (tableOf es ps) (history es ps cs)) (parentsLeft (tableOf es ps) (history es ps cs)) (position (history es ps cs)) c
+    → After es ps (recordAfter es ps cs) (startsOpen (tableOf es ps) (history es ps cs)) (leftAt es ps cs c) (position (history es ps cs)) c
 unfolding Lent
-promised-after es ps cs c r = after es ps (r .checked) _ _ _ _ (tied-after es ps (r .checked) cs (r .octets .1)) c (r .octets .0)
+promised-after es ps cs c r = after-these es ps (r .checked) cs (known es ps (r .checked) cs (r .octets .1)) c (r .octets .0)
 
 -- ---- the child-size test
 
@@ -147,4 +206,4 @@ pub test-after : (es ps : List ℕ) → checkTable es ps ≡ Passed → (cs : Li
 unfolding recordAfter childTestOn Lent
 test-after es ps checked [] l = refl
 test-after es ps checked (c ∷ cs) l =
-    after es ps checked _ _ _ _ (tied-after es ps checked cs (l .1)) c (l .0) .test ∙ ap (testAfter c) (test-after es ps checked cs (l .1))
+    after-these es ps checked cs (known es ps checked cs (l .1)) c (l .0) .test ∙ ap (testAfter c) (test-after es ps checked cs (l .1))

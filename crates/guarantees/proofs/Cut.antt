@@ -36,8 +36,8 @@ use Rattle.decoder_decide.proofs.Judged.{pick}
 use Rattle.guarantees.specs.Calls.{Call, ending, recordAfter, Lent}
 use Rattle.guarantees.specs.History.{Started, position}
 use Rattle.guarantees.specs.Promises.{Runs, Answers, openAt, placeAt, NotFull, EndOr23}
-use Rattle.guarantees.proofs.Decided.{allMasters}
 use Rattle.guarantees.proofs.Ends.{endedBy}
+use Rattle.guarantees.proofs.Decided.{allMasters}
 use Rattle.guarantees.proofs.Tied.{allEnded}
 use Rattle.guarantees.proofs.Steps.{decode-called, eof-called}
 use Rattle.guarantees.proofs.AnyCalls.{good-shape, tied-after}

@@ -1,16 +1,16 @@
 -- Demand 3, of every table that the check passes, and so of document 01's bench table. Assumes nothing.
 use Prim.Native.Nat.{ℕ}
 use mathlib.Core.Path.{_≡_}
-use mathlib.Core.List.{List, [], _∷_}
+use mathlib.Core.List.{List, _∷_}
 use Rattle.table.specs.Check.{checkTable}
 use Rattle.table.specs.declared.types.Checked.the-variants.{Passed}
 use Rattle.table.proofs.Examples.{benchEntries, benchParts, checks}
 use Rattle.guarantees.specs.Calls.{Call, ending, Lent}
 use Rattle.guarantees.specs.Promises.{Runs}
 use Rattle.guarantees.specs.Demand3.{Demand3}
+use Rattle.guarantees.proofs.Night.{one-more, cut-night}
 use Rattle.guarantees.proofs.Guarantees as promise
 use Rattle.guarantees.proofs.Cut as cut
-use Rattle.guarantees.proofs.Night.{one-more, cut-night}
 
 pub demand-3 : (es ps : List ℕ) → checkTable es ps ≡ Passed → Demand3 es ps
 demand-3 es ps checked = record {

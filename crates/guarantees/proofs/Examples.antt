@@ -23,9 +23,10 @@ use Rattle.decoder_state.specs.State.{endFor, withOpen, withWaiting, withNotes,
 use Rattle.decoder_state.specs.OneCall.{goodOpen, goodState, refused12, refused13, isDone, firstIndex, closing, noted, step8, reaches, step9, validHeader, endedTops, element, elementOf, step11, steps10-11, steps8-11, steps6-11, step5, steps4-11, steps2-11, decide, move, apply, cutBytes, isCut, finish, closeAll, ended, decodeEof, atPlace, scan, tryRecover}
 use Rattle.decoder_state.specs.declared.types.Given.the-variants.{Nothing, Number}
 use Rattle.decoder_state.proofs.Starred.{entries, parts}
-use Rattle.guarantees.specs.Calls.{Call, ending, recovering, recordAfter, history, impliedBy, placeNote, scanNote}
+use Rattle.guarantees.specs.Calls.{Call, ending, recovering, recordAfter, history, answerRefusal}
+use Rattle.guarantees.specs.Settling.{impliedBy, settleAt, settleWithin, settledSeen}
 use Rattle.guarantees.specs.History.{Started, declaredEnd, later, startsOpen, parentsLeft, position}
-use Rattle.guarantees.specs.Promises.{answerRefusal, atTheEnd}
+use Rattle.guarantees.specs.Promises.{atTheEnd}
 
 -- the calls of a caller who lends all that is left each time, up to the end of input: the first n calls on the bytes s, of which each takes as many as
 -- this list says; latest first
@@ -47,7 +48,7 @@ bench = tableOf entries parts
 
 -- what a caller can tell after these calls: the Starts that are open, the implied parents that are left, and the position
 abbrev seen : List Call → List Started × List ℕ × ℕ
-seen cs = (startsOpen bench (history entries parts cs), parentsLeft bench (history entries parts cs), position (history entries parts cs))
+seen cs = (startsOpen bench (history entries parts cs), parentsLeft parts bench (history entries parts cs), position (history entries parts cs))
 
 pub record Seen : Type 0 where
   -- D1 after its Data, after the first End, and at the finish
@@ -69,7 +70,7 @@ pub record Seen : Type 0 where
   pub implying : seen (recovering d5 ∷ []) ≡ ([], 0xA1 ∷ 0x4E01 ∷ [], 0)
 
 pub seen-so : Seen
-unfolding signedOf nanBits toBits ofBits leadingZeros beFrom readVint arrToU64 arrToI64 arrToF64 widened fits rows firstFit textAfter every any goodPart goodParts goodEntry goodEntries goodShape onlyIds threes fours boundOf partOf sameBound samePart samePath kindOf isMaster clipped entryOf tableOf entryFor isIdOf hasId isTyped isParent isSibling isTypedRoot isEndedBy overMax underMin isIdAt walkGlobal walkAt walkPart unknownAndEnded walkMaster minMet walkEnd goOn walkFrom validateTagPath readTagId sizeOf tooLong sizedBy sized afterId readHeader readData endFor withOpen withWaiting withNotes settledTo opened closedTo handedOut grownBy grown goodOpen goodState refused12 refused13 isDone firstIndex closing noted step8 reaches step9 validHeader endedTops element elementOf step11 steps10-11 steps8-11 steps6-11 step5 steps4-11 steps2-11 decide move apply cutBytes isCut finish closeAll ended decodeEof scan atPlace tryRecover recordAfter history impliedBy placeNote scanNote declaredEnd later startsOpen parentsLeft position lending
+unfolding signedOf nanBits toBits ofBits leadingZeros beFrom readVint arrToU64 arrToI64 arrToF64 widened fits rows firstFit textAfter every any goodPart goodParts goodEntry goodEntries goodShape onlyIds threes fours boundOf partOf sameBound samePart samePath kindOf isMaster clipped entryOf tableOf entryFor isIdOf hasId isTyped isParent isSibling isTypedRoot isEndedBy overMax underMin isIdAt walkGlobal walkAt walkPart unknownAndEnded walkMaster minMet walkEnd goOn walkFrom validateTagPath readTagId sizeOf tooLong sizedBy sized afterId readHeader readData endFor withOpen withWaiting withNotes settledTo opened closedTo handedOut grownBy grown goodOpen goodState refused12 refused13 isDone firstIndex closing noted step8 reaches step9 validHeader endedTops element elementOf step11 steps10-11 steps8-11 steps6-11 step5 steps4-11 steps2-11 decide move apply cutBytes isCut finish closeAll ended decodeEof scan atPlace tryRecover recordAfter history impliedBy settleAt settleWithin settledSeen declaredEnd later startsOpen parentsLeft position lending
 seen-so = record {
   d1-data = refl;
   d1-end = refl;

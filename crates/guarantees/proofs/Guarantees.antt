@@ -27,12 +27,14 @@ use Rattle.decoder_state.specs.declared.types.TagDecoder.{TagDecoder}
 use Rattle.decoder_state.proofs.Good.{both}
 use Rattle.decoder_state.proofs.Kept.{opens-length, waits-length}
 use Rattle.tag_decoder.specs.Settings.{isFinished}
-use Rattle.guarantees.specs.Calls.{Call, decoding, ending, recovering, allow, limit, lent, Told, answered, searched, silent, toldBy, impliedBy, noteOf, recordAfter, history, Lent}
+use Rattle.decoder_decide.proofs.Judged.{cond-yes}
+use Rattle.guarantees.specs.Calls.{Call, decoding, ending, recovering, allow, limit, lent, Told, answered, searched, silent, toldBy, recordAfter, history, Lent, refusalOf}
+use Rattle.guarantees.specs.Settling.{settledSeen, seenParents}
 use Rattle.guarantees.specs.History.{Started, declaredEnd, afterTold, afterDeclared, startsOpen, startsDeclared, parentsLeft, position, testAfter, childTestOn, childTestNeverOff, isNoRecovery, neverRecovered}
-use Rattle.guarantees.specs.Promises.{refusalOf, eventKind, eventId, elementOffset, Runs, lastTold, Answers, openAt, leftAt, placeAt, EndMatches, EndsInside}
+use Rattle.guarantees.specs.Promises.{eventKind, eventId, elementOffset, Runs, lastTold, Answers, openAt, leftAt, placeAt, EndMatches, EndsInside}
 use Rattle.guarantees.proofs.Tied.{parentOf, asEnd, asStarted, stack, Tied, none-open}
 use Rattle.guarantees.proofs.Steps.{reachesTo, allReach, Ends, ElementFacts, EventFacts, RefusalFacts, no-starts}
-use Rattle.guarantees.proofs.AnyCalls.{ToldFacts, MeasuredTold, settled-implies-none, tied-after, promised-after, test-after}
+use Rattle.guarantees.proofs.AnyCalls.{ToldFacts, MeasuredTold, settled-after, tied-after, promised-after, test-after}
 
 -- ---- the refusals
 
@@ -136,16 +138,17 @@ module _ (es ps : List ℕ) (cs : List Call) (c : Call) (run : Runs es ps (c ∷
   end-matches x o a = facts _ (a .1) .1
 
   -- parents are implied only where no Start is open and no parent is left, so before all Starts
-  pub implied-first : (impliedBy ps (noteOf es ps (recordAfter es ps cs) c) ≡ [] → ⊥) → (openAt es ps cs ≡ []) × (parentsLeft (tableOf es ps) (history es ps cs) ≡ [])
+  pub implied-first : (seenParents ps (tableOf es ps) (history es ps cs) (lent c) (lastTold es ps cs c) ≡ [] → ⊥)
+      → (openAt es ps cs ≡ []) × (parentsLeft ps (tableOf es ps) (history es ps cs) ≡ [])
   unfolding Lent
   implied-first some = go (recordAfter es ps cs .settled) refl
     where
-      k : Tied (tableOf es ps) (recordAfter es ps cs) (openAt es ps cs) (parentsLeft (tableOf es ps) (history es ps cs)) (placeAt es ps cs)
+      k : Tied (tableOf es ps) (recordAfter es ps cs) (openAt es ps cs) (parentsLeft ps (tableOf es ps) (history es ps cs)) (placeAt es ps cs)
       k = tied-after es ps (run .checked) cs (run .octets .1)
 
-      go : (b : Bool) → recordAfter es ps cs .settled ≡ b → (openAt es ps cs ≡ []) × (parentsLeft (tableOf es ps) (history es ps cs) ≡ [])
-      go true u = absurd (some (settled-implies-none es ps (run .checked) (recordAfter es ps cs) (openAt es ps cs) (parentsLeft (tableOf es ps) (history es ps cs)) (placeAt es ps cs) k c (run .octets .0) u))
-      go false u = none-open (openAt es ps cs) (parentsLeft (tableOf es ps) (history es ps cs)) (k .linked .unsettled u)
+      go : (b : Bool) → recordAfter es ps cs .settled ≡ b → (openAt es ps cs ≡ []) × (parentsLeft ps (tableOf es ps) (history es ps cs) ≡ [])
+      go true u = absurd (some (cond-yes (settledSeen ps (tableOf es ps) (history es ps cs)) [] _ (sym (settled-after es ps (run .checked) cs (run .octets .1)) ∙ u)))
+      go false u = none-open (openAt es ps cs) (parentsLeft ps (tableOf es ps) (history es ps cs)) (k .linked .unsettled u)
 
   -- and the offset of a Start or a Data is the position, the count of all bytes taken before it
   pub offset-is-position : (e : Event) (o : ℕ) → elementOffset e ≡ Number o → Answers es ps cs c (answer.Event e) → o ≡ placeAt es ps cs
@@ -197,13 +200,13 @@ module _ (es ps : List ℕ) (cs : List Call) (c : Call) (run : Runs es ps (c ∷
 -- ---- limits, after any calls
 
 module _ (es ps : List ℕ) (cs : List Call) (run : Runs es ps cs) where
-  tied-now : Tied (tableOf es ps) (recordAfter es ps cs) (openAt es ps cs) (parentsLeft (tableOf es ps) (history es ps cs)) (placeAt es ps cs)
+  tied-now : Tied (tableOf es ps) (recordAfter es ps cs) (openAt es ps cs) (parentsLeft ps (tableOf es ps) (history es ps cs)) (placeAt es ps cs)
   tied-now = tied-after es ps (run .checked) cs (run .octets)
 
   -- at most 32 Ends are still to come
-  pub at-most-32 : length (openAt es ps cs) + length (parentsLeft (tableOf es ps) (history es ps cs)) ≤ 32
+  pub at-most-32 : length (openAt es ps cs) + length (parentsLeft ps (tableOf es ps) (history es ps cs)) ≤ 32
   at-most-32 =
-      omega (arith, tied-now .linked .few, length-append (openAt es ps cs) (map parentOf (parentsLeft (tableOf es ps) (history es ps cs))), length-map (parentsLeft (tableOf es ps) (history es ps cs)) parentOf)
+      omega (arith, tied-now .linked .few, length-append (openAt es ps cs) (map parentOf (parentsLeft ps (tableOf es ps) (history es ps cs))), length-map (parentsLeft ps (tableOf es ps) (history es ps cs)) parentOf)
 
   -- so the arrays of 32 hold the open masters and the waiting Ends, together too
   pub arrays-hold : recordAfter es ps cs .«open_count» + recordAfter es ps cs .«waiting_count» ≤ 32

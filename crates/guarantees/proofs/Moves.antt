@@ -25,8 +25,8 @@ use Rattle.decoder_decide.proofs.Judged.{pick}
 use Rattle.tag_decoder.specs.Settings.{withSettings}
 use Rattle.guarantees.specs.History.{Started, laterEnd, later, leftByEnd}
 use Rattle.guarantees.specs.Promises.{EndMatches}
-use Rattle.guarantees.proofs.Decided.{allMasters}
 use Rattle.guarantees.proofs.Ends.{knownEnd, every-reversed}
+use Rattle.guarantees.proofs.Decided.{allMasters}
 use Rattle.guarantees.proofs.Tied.{asStarted, parentOf, asEnd, stack, allStarted, Linked, map-same, popped, none-open, both-empty}
 
 -- ---- settings, and the position

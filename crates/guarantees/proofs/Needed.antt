@@ -22,16 +22,16 @@ use Rattle.tag_parse.specs.Payload.{readData}
 use Rattle.decoder_state.specs.State.{endFor, withOpen, withWaiting, withNotes, settledTo, opened, closedTo, handedOut, grownBy, grown}
 use Rattle.decoder_state.specs.OneCall.{goodOpen, goodState, refused12, refused13, isDone, firstIndex, closing, noted, step8, reaches, step9, validHeader, endedTops, element, elementOf, step11, steps10-11, steps8-11, steps6-11, step5, steps4-11, steps2-11, decide, move, apply, cutBytes, isCut, finish, closeAll, ended, decodeEof, atPlace, scan, tryRecover}
 use Rattle.decoder_state.specs.declared.types.Given.the-variants.{Nothing}
-use Rattle.guarantees.specs.Calls.{Call, decoding, ending, recordAfter, history, impliedBy, placeNote, scanNote}
-use Rattle.guarantees.specs.History.{declaredEnd, later, startsOpen, parentsLeft, position}
 use Rattle.table.specs.declared.types.Rule.the-variants.{GlobalInMaster, NoMaster}
 use Rattle.table.specs.declared.types.Checked.the-variants.{Fault}
 use Rattle.decoder_state.specs.declared.types.Answer.the-variants.{Event, Finished, Refused}
 use Rattle.decoder_state.specs.declared.types.DecodeError.the-variants.{NotAMaster}
 use Rattle.decoder_state.specs.declared.types.Event.the-variants.{Start, End, Data}
 use Rattle.tag_parse.specs.declared.types.TagValue.the-variants.{UnsignedInt}
+use Rattle.guarantees.specs.Calls.{Call, decoding, ending, recordAfter, history, answered}
+use Rattle.guarantees.specs.Settling.{impliedBy, settleAt, settleWithin, settledSeen}
+use Rattle.guarantees.specs.History.{declaredEnd, later, startsOpen, parentsLeft, position}
 use Rattle.guarantees.specs.Promises.{lastTold, openAt}
-use Rattle.guarantees.specs.Calls.{answered}
 
 -- ---- rule 34: a path names an ID that is no Master
 
@@ -76,13 +76,13 @@ pub record NeverEnds : Type 0 where
   pub finished : lastTold (globalMaster .0) (globalMaster .1) rooted (ending []) ≡ answered Finished 0
 
 pub table-fault : TableFault
-unfolding signedOf nanBits toBits ofBits leadingZeros beFrom readVint arrToU64 arrToI64 arrToF64 widened fits rows firstFit textAfter every any goodPart goodParts goodEntry goodEntries goodShape onlyIds threes fours boundOf partOf sameBound samePart samePath kindOf isMaster clipped entryOf tableOf entryFor isIdOf hasId isTyped isParent isSibling isTypedRoot isEndedBy overMax underMin isIdAt walkGlobal walkAt walkPart unknownAndEnded walkMaster minMet walkEnd goOn walkFrom validateTagPath readTagId sizeOf tooLong sizedBy sized afterId readHeader readData endFor withOpen withWaiting withNotes settledTo opened closedTo handedOut grownBy grown goodOpen goodState refused12 refused13 isDone firstIndex closing noted step8 reaches step9 validHeader endedTops element elementOf step11 steps10-11 steps8-11 steps6-11 step5 steps4-11 steps2-11 decide move apply cutBytes isCut finish closeAll ended decodeEof scan atPlace tryRecover recordAfter history impliedBy placeNote scanNote declaredEnd later startsOpen parentsLeft position isVint allowedId listed masterOfIds masterOrGlobal allMasters ownPaths keeps firstBroken faultOr checkFrom checkTable
+unfolding signedOf nanBits toBits ofBits leadingZeros beFrom readVint arrToU64 arrToI64 arrToF64 widened fits rows firstFit textAfter every any goodPart goodParts goodEntry goodEntries goodShape onlyIds threes fours boundOf partOf sameBound samePart samePath kindOf isMaster clipped entryOf tableOf entryFor isIdOf hasId isTyped isParent isSibling isTypedRoot isEndedBy overMax underMin isIdAt walkGlobal walkAt walkPart unknownAndEnded walkMaster minMet walkEnd goOn walkFrom validateTagPath readTagId sizeOf tooLong sizedBy sized afterId readHeader readData endFor withOpen withWaiting withNotes settledTo opened closedTo handedOut grownBy grown goodOpen goodState refused12 refused13 isDone firstIndex closing noted step8 reaches step9 validHeader endedTops element elementOf step11 steps10-11 steps8-11 steps6-11 step5 steps4-11 steps2-11 decide move apply cutBytes isCut finish closeAll ended decodeEof scan atPlace tryRecover recordAfter history impliedBy settleAt settleWithin settledSeen declaredEnd later startsOpen parentsLeft position isVint allowedId listed masterOfIds masterOrGlobal allMasters ownPaths keeps firstBroken faultOr checkFrom checkTable
 table-fault = record { refused = refl; amount = refl; fault = refl }
 
 pub lost-start : LostStart
-unfolding signedOf nanBits toBits ofBits leadingZeros beFrom readVint arrToU64 arrToI64 arrToF64 widened fits rows firstFit textAfter every any goodPart goodParts goodEntry goodEntries goodShape onlyIds threes fours boundOf partOf sameBound samePart samePath kindOf isMaster clipped entryOf tableOf entryFor isIdOf hasId isTyped isParent isSibling isTypedRoot isEndedBy overMax underMin isIdAt walkGlobal walkAt walkPart unknownAndEnded walkMaster minMet walkEnd goOn walkFrom validateTagPath readTagId sizeOf tooLong sizedBy sized afterId readHeader readData endFor withOpen withWaiting withNotes settledTo opened closedTo handedOut grownBy grown goodOpen goodState refused12 refused13 isDone firstIndex closing noted step8 reaches step9 validHeader endedTops element elementOf step11 steps10-11 steps8-11 steps6-11 step5 steps4-11 steps2-11 decide move apply cutBytes isCut finish closeAll ended decodeEof scan atPlace tryRecover recordAfter history impliedBy placeNote scanNote declaredEnd later startsOpen parentsLeft position isVint allowedId listed masterOfIds masterOrGlobal allMasters ownPaths keeps firstBroken faultOr checkFrom checkTable
+unfolding signedOf nanBits toBits ofBits leadingZeros beFrom readVint arrToU64 arrToI64 arrToF64 widened fits rows firstFit textAfter every any goodPart goodParts goodEntry goodEntries goodShape onlyIds threes fours boundOf partOf sameBound samePart samePath kindOf isMaster clipped entryOf tableOf entryFor isIdOf hasId isTyped isParent isSibling isTypedRoot isEndedBy overMax underMin isIdAt walkGlobal walkAt walkPart unknownAndEnded walkMaster minMet walkEnd goOn walkFrom validateTagPath readTagId sizeOf tooLong sizedBy sized afterId readHeader readData endFor withOpen withWaiting withNotes settledTo opened closedTo handedOut grownBy grown goodOpen goodState refused12 refused13 isDone firstIndex closing noted step8 reaches step9 validHeader endedTops element elementOf step11 steps10-11 steps8-11 steps6-11 step5 steps4-11 steps2-11 decide move apply cutBytes isCut finish closeAll ended decodeEof scan atPlace tryRecover recordAfter history impliedBy settleAt settleWithin settledSeen declaredEnd later startsOpen parentsLeft position isVint allowedId listed masterOfIds masterOrGlobal allMasters ownPaths keeps firstBroken faultOr checkFrom checkTable
 lost-start = record { refused = refl; start = refl; still-open = refl; end = refl }
 
 pub never-ends : NeverEnds
-unfolding signedOf nanBits toBits ofBits leadingZeros beFrom readVint arrToU64 arrToI64 arrToF64 widened fits rows firstFit textAfter every any goodPart goodParts goodEntry goodEntries goodShape onlyIds threes fours boundOf partOf sameBound samePart samePath kindOf isMaster clipped entryOf tableOf entryFor isIdOf hasId isTyped isParent isSibling isTypedRoot isEndedBy overMax underMin isIdAt walkGlobal walkAt walkPart unknownAndEnded walkMaster minMet walkEnd goOn walkFrom validateTagPath readTagId sizeOf tooLong sizedBy sized afterId readHeader readData endFor withOpen withWaiting withNotes settledTo opened closedTo handedOut grownBy grown goodOpen goodState refused12 refused13 isDone firstIndex closing noted step8 reaches step9 validHeader endedTops element elementOf step11 steps10-11 steps8-11 steps6-11 step5 steps4-11 steps2-11 decide move apply cutBytes isCut finish closeAll ended decodeEof scan atPlace tryRecover recordAfter history impliedBy placeNote scanNote declaredEnd later startsOpen parentsLeft position isVint allowedId listed masterOfIds masterOrGlobal allMasters ownPaths keeps firstBroken faultOr checkFrom checkTable
+unfolding signedOf nanBits toBits ofBits leadingZeros beFrom readVint arrToU64 arrToI64 arrToF64 widened fits rows firstFit textAfter every any goodPart goodParts goodEntry goodEntries goodShape onlyIds threes fours boundOf partOf sameBound samePart samePath kindOf isMaster clipped entryOf tableOf entryFor isIdOf hasId isTyped isParent isSibling isTypedRoot isEndedBy overMax underMin isIdAt walkGlobal walkAt walkPart unknownAndEnded walkMaster minMet walkEnd goOn walkFrom validateTagPath readTagId sizeOf tooLong sizedBy sized afterId readHeader readData endFor withOpen withWaiting withNotes settledTo opened closedTo handedOut grownBy grown goodOpen goodState refused12 refused13 isDone firstIndex closing noted step8 reaches step9 validHeader endedTops element elementOf step11 steps10-11 steps8-11 steps6-11 step5 steps4-11 steps2-11 decide move apply cutBytes isCut finish closeAll ended decodeEof scan atPlace tryRecover recordAfter history impliedBy settleAt settleWithin settledSeen declaredEnd later startsOpen parentsLeft position isVint allowedId listed masterOfIds masterOrGlobal allMasters ownPaths keeps firstBroken faultOr checkFrom checkTable
 never-ends = record { still-open = refl; finished = refl }

@@ -27,9 +27,9 @@ use Rattle.decoder_state.specs.declared.types.TagDecoder.{TagDecoder}
 use Rattle.decoder_state.proofs.Good.{both, and-both, every-append, every-take}
 use Rattle.decoder_decide.proofs.Judged.{pick}
 use Rattle.tag_decoder.proofs.Told.{takes-within}
-use Rattle.guarantees.specs.Calls.{Call, ending, Told, answered, next, recordAfter, history, Lent}
+use Rattle.guarantees.specs.Calls.{Call, ending, Told, answered, next, recordAfter, history, Lent, answerRefusal}
 use Rattle.guarantees.specs.History.{Started, afterAnswer, firstEnd, outermostEnd, startsOpen, position, childTestNeverOff}
-use Rattle.guarantees.specs.Promises.{answerRefusal, Runs, lastTold, Answers, openAt, leftAt, placeAt, NotFull, EndOr23, endingAgain, atTheEnd}
+use Rattle.guarantees.specs.Promises.{Runs, lastTold, Answers, openAt, leftAt, placeAt, NotFull, EndOr23, endingAgain, atTheEnd}
 use Rattle.guarantees.proofs.Ends.{endedBy}
 use Rattle.guarantees.proofs.Tied.{parentOf, stack}
 use Rattle.guarantees.proofs.AnyCalls.{BatchTold, promised-after}

@@ -34,10 +34,11 @@ use Rattle.decoder_state.proofs.Good.{GoodState, is-good-state, every-other, ev
 use Rattle.decoder_state.proofs.Kept.{settled-opens}
 use Rattle.decoder_state.proofs.Stays.{implied-good, grown-good}
 use Rattle.decoder_decide.proofs.Judged.{pick, passed12}
-use Rattle.guarantees.specs.Calls.{impliedBy, orElse, placeNote, scanNote, scanNoteOr}
+use Rattle.guarantees.specs.Settling.{impliedBy, orElse}
 use Rattle.guarantees.specs.History.{Started, later, outermostEnd, afterSearch}
-use Rattle.guarantees.proofs.Decided.{NoteFacts, step7-facts}
 use Rattle.guarantees.proofs.Ends.{endedBy}
+use Rattle.guarantees.proofs.Notes.{placeNote, scanNote, scanNoteOr}
+use Rattle.guarantees.proofs.Decided.{NoteFacts, step7-facts}
 use Rattle.guarantees.proofs.Tied.{stack, allEnded, Linked, Tied}
 use Rattle.guarantees.proofs.Outermost.{none-batch, ended-grown, batch-later}
 use Rattle.guarantees.proofs.Moves.{moved-linked, settled-linked, stack-later, grown-linked}

@@ -1,14 +1,13 @@
--- The parents that a step of a history names are those that a caller can tell from the bytes lent and the answers alone. Assumes nothing.
-use Prim.Native.Nat.{ℕ, zero, suc, _+_, _-_, _^_, _≤_, _<_}
-use mathlib.Core.Path.{_≡_, refl, sym, ap, _∙_, subst}
+-- The settling note of a call on a record that has not settled is the one that a caller can tell from the bytes lent and the answer alone. Assumes nothing.
+use Prim.Native.Nat.{ℕ, zero, suc, _+_, _-_, _≤_}
+use mathlib.Core.Path.{_≡_, refl, sym, ap, _∙_}
 use mathlib.Core.Bool.{Bool, true, false, cond, not, _&&_, _||_, true≢false, false≢true}
-use mathlib.Core.List.{List, [], _∷_, _++_, map}
+use mathlib.Core.List.{List, [], _∷_}
 use native.Mathlib.Omega.{arith}
-use borrow.Author.Tests.{ltb-true, ltb-false, lt-ltb, leb-true, eqb-true}
+use borrow.Author.Tests.{ltb-true, ltb-false, eqb-true}
 use lib.Dec.{leb, ltb, eqb}
 use lib.ListN.{length, getD, take, drop}
-use Rattle.tools.specs.Bytes.{Octets}
-use Rattle.table.specs.Check.{checkTable, onlyIds}
+use Rattle.table.specs.Check.{onlyIds}
 use Rattle.table.specs.Lists.{every}
 use Rattle.table.specs.Shape.{goodShape}
 use Rattle.table.specs.declared.types.Path.{Path}
@@ -26,7 +25,7 @@ use Rattle.tag_parse.specs.declared.types.ReadHeader.{ReadHeader}
 use Rattle.tag_parse.specs.declared.types.ReadHeader.the-variants as header
 use Rattle.tag_parse.specs.declared.types.TagHeader.{TagHeader}
 use Rattle.decoder_state.specs.State.{opens, withOpen, withWaiting, withNotes, settledTo, opened, closedTo, handedOut, grown}
-use Rattle.decoder_state.specs.OneCall.{errorNumber, refused12, refused13, andThen, step3, step6, settles, step7, noted, plain, steps6-11, step5, steps4-11, steps2-11, orRefuse, decide, parseError, closing, dataOr, element, elementOf, step8, reaches, step9, step10, step11, steps10-11, validHeader, unless, steps8-11, move, apply, decode, refuse, firstIndex, isCut, cutMaster, cutBytes, finish, closeAll, cutOr, ended, endedOr, decodeEof, passes, forward, recovered, found, atPlace, scan, scanOr, tryRecover}
+use Rattle.decoder_state.specs.OneCall.{errorNumber, refused12, refused13, andThen, step3, step6, step7, noted, plain, steps6-11, step5, steps4-11, steps2-11, orRefuse, decide, parseError, closing, dataOr, element, elementOf, step8, reaches, step9, step10, step11, steps10-11, validHeader, unless, steps8-11, move, apply, decode, refuse, firstIndex, isCut, cutMaster, cutBytes, finish, closeAll, cutOr, ended, endedOr, decodeEof, passes, forward, found, atPlace, scan, scanOr, tryRecover}
 use Rattle.decoder_state.specs.declared.types.Action.{Action}
 use Rattle.decoder_state.specs.declared.types.Action.the-variants as act
 use Rattle.decoder_state.specs.declared.types.Answer.{Answer}
@@ -45,17 +44,14 @@ use Rattle.decoder_state.specs.declared.types.Search.{Search}
 use Rattle.decoder_state.specs.declared.types.Search.the-variants as search
 use Rattle.decoder_state.specs.declared.types.TagDecoder.{TagDecoder}
 use Rattle.decoder_state.proofs.Good.{GoodState}
-use Rattle.decoder_decide.proofs.Judged.{pick, cond-yes, cond-no}
-use Rattle.guarantees.specs.Calls.{Call, decoding, ending, recovering, allow, limit, lent, Told, answered, searched, silent, toldBy, next, impliedBy, orElse, placeNote, scanNote, scanNoteOr, noteOf, recordAfter, history, Lent}
-use Rattle.guarantees.specs.Promises.{answerRefusal, Runs}
-use Rattle.guarantees.specs.Seen.{settleHeader, settleAt, settleWithin, unread, searchNote, seenNote, isSettle, settledSeen, seenParents}
+use Rattle.decoder_decide.proofs.Judged.{pick}
 use Rattle.tag_decoder.specs.Settings.{withSettings, limitedTo}
-use Rattle.guarantees.proofs.Steps.{stack-length, unsettled-waiting}
-use Rattle.guarantees.proofs.Recovery.{TooFar, only-far, pick-two}
-use Rattle.guarantees.proofs.AnyCalls.{good-shape, settled-implies-none, tied-after}
-use Rattle.table.specs.declared.types.Checked.the-variants.{Passed}
 use Rattle.decoder_state.specs.declared.types.Given.{Given}
 use Rattle.decoder_state.specs.declared.types.Given.the-variants.{Nothing, Number}
+use Rattle.guarantees.specs.Calls.{Call, decoding, ending, recovering, allow, limit, lent, answered, searched, toldBy, next, answerRefusal}
+use Rattle.guarantees.specs.Settling.{orElse, settleHeader, settleAt, settleWithin, unread, searchNote, seenNote, isSettle}
+use Rattle.guarantees.proofs.Notes.{placeNote, scanNote, scanNoteOr, noteOf}
+use Rattle.guarantees.proofs.Recovery.{TooFar, only-far, pick-two}
 
 -- ---- no step after the first refuses with 12 or 13
 
@@ -148,10 +144,10 @@ untyped-settles-none ps d h e = go (isTyped (h .kind)) (d .«allow_ids») e
     go false b f = refl
 
 -- nothing has settled, so nothing is open and nothing waits
-record Began (d : TagDecoder) : Type 0 where
-  unsettled : d .settled ≡ false
-  none-waiting : d .«waiting_count» ≡ 0
-  none-open : d .«open_count» ≡ 0
+pub record Began (d : TagDecoder) : Type 0 where
+  pub unsettled : d .settled ≡ false
+  pub none-waiting : d .«waiting_count» ≡ 0
+  pub none-open : d .«open_count» ≡ 0
 
 module _ (ps : List ℕ) (t : List Entry) (d : TagDecoder) (s : List ℕ) (began : Began d) where
   SeenBy : Decision → Type 0
@@ -458,7 +454,7 @@ module _ (es ps : List ℕ) (d : TagDecoder) where
   limit-settled Nothing = or-none (d .settled)
   limit-settled (Number n) = or-none (d .settled)
 
-  next-settled : (c : Call) → next es ps d c .settled ≡ (d .settled || isSettle (noteOf es ps d c))
+  pub next-settled : (c : Call) → next es ps d c .settled ≡ (d .settled || isSettle (noteOf es ps d c))
   unfolding withSettings tryRecover
   next-settled (decoding s) = decode-settled es ps d s
   next-settled (ending s) = eof-settled es ps d s
@@ -467,51 +463,9 @@ module _ (es ps : List ℕ) (d : TagDecoder) where
   next-settled (limit n) = limit-settled n
 
   -- the note of a call on a record that has not settled
-  note-seen : goodShape es ps ≡ true → GoodState d → Began d → (c : Call) → noteOf es ps d c ≡ seenNote ps (tableOf es ps) (lent c) (toldBy es ps d c)
+  pub note-seen : goodShape es ps ≡ true → GoodState d → Began d → (c : Call) → noteOf es ps d c ≡ seenNote ps (tableOf es ps) (lent c) (toldBy es ps d c)
   note-seen shape good began (decoding s) = decode-seen es ps shape d s good began (decode es ps d s .taken)
   note-seen shape good began (ending s) = eof-seen es ps shape d s good began (decodeEof es ps d s .taken)
   note-seen shape good began (recovering s) = recover-seen es ps d s (began .unsettled)
   note-seen shape good began (allow ids hierarchy oversized) = refl
   note-seen shape good began (limit n) = refl
-
--- ---- any calls
-
-module _ (es ps : List ℕ) (checked : checkTable es ps ≡ Passed) (cs : List Call) (octets : Lent cs) (u : recordAfter es ps cs .settled ≡ false) where
-  began-so : Began (recordAfter es ps cs)
-  began-so =
-      let d = recordAfter es ps cs in
-      let k = tied-after es ps checked cs octets in
-      let w = unsettled-waiting (tableOf es ps) d _ _ _ (k .linked) u in
-      let l = stack-length (tableOf es ps) d _ _ _ (k .linked) w in
-      record { unsettled = u; none-waiting = w; none-open = sym l ∙ ap length (k .linked .unsettled u) }
-
-both-true : (a b x y : Bool) → a ≡ true → b ≡ true → (a || x) ≡ (b || y)
-both-true a b x y p q = rw (p, q)
-
-pub settled-seen : (es ps : List ℕ) → checkTable es ps ≡ Passed → (cs : List Call) → Lent cs → recordAfter es ps cs .settled ≡ settledSeen ps (tableOf es ps) (history es ps cs)
-unfolding recordAfter history settledSeen Lent
-settled-seen es ps checked [] l = refl
-settled-seen es ps checked (c ∷ cs) l = next-settled es ps (recordAfter es ps cs) c ∙ go (recordAfter es ps cs .settled) refl (settled-seen es ps checked cs (l .1))
-  where
-    go : (b : Bool) → recordAfter es ps cs .settled ≡ b → recordAfter es ps cs .settled ≡ settledSeen ps (tableOf es ps) (history es ps cs)
-        → (recordAfter es ps cs .settled || isSettle (noteOf es ps (recordAfter es ps cs) c))
-        ≡ (settledSeen ps (tableOf es ps) (history es ps cs) || isSettle (seenNote ps (tableOf es ps) (lent c) (toldBy es ps (recordAfter es ps cs) c)))
-    go true e f = both-true (recordAfter es ps cs .settled) (settledSeen ps (tableOf es ps) (history es ps cs)) (isSettle (noteOf es ps (recordAfter es ps cs) c)) (isSettle (seenNote ps (tableOf es ps) (lent c) (toldBy es ps (recordAfter es ps cs) c))) e (sym f ∙ e)
-    go false e f =
-        let n = note-seen es ps (recordAfter es ps cs) (good-shape es ps checked) (tied-after es ps checked cs (l .1) .linked .good) (began-so es ps checked cs (l .1) e) c in
-        ap (λ (b : Bool). b || isSettle (noteOf es ps (recordAfter es ps cs) c)) f ∙ ap (λ (x : Note). settledSeen ps (tableOf es ps) (history es ps cs) || isSettle x) n
-
--- the parents that a call implies are those that a caller can tell
-pub parents-seen : (es ps : List ℕ) (cs : List Call) (c : Call) → Runs es ps (c ∷ cs)
-    → impliedBy ps (noteOf es ps (recordAfter es ps cs) c) ≡ seenParents ps (tableOf es ps) (history es ps cs) (lent c) (toldBy es ps (recordAfter es ps cs) c)
-unfolding Lent
-parents-seen es ps cs c run = go (recordAfter es ps cs .settled) refl
-  where
-    is : recordAfter es ps cs .settled ≡ settledSeen ps (tableOf es ps) (history es ps cs)
-    is = settled-seen es ps (run .checked) cs (run .octets .1)
-
-    go : (b : Bool) → recordAfter es ps cs .settled ≡ b → impliedBy ps (noteOf es ps (recordAfter es ps cs) c) ≡ seenParents ps (tableOf es ps) (history es ps cs) (lent c) (toldBy es ps (recordAfter es ps cs) c)
-    go true e = settled-implies-none es ps (run .checked) (recordAfter es ps cs) _ _ _ (tied-after es ps (run .checked) cs (run .octets .1)) c (run .octets .0) e ∙ sym (cond-yes _ [] _ (sym is ∙ e))
-    go false e =
-        let n = note-seen es ps (recordAfter es ps cs) (good-shape es ps (run .checked)) (tied-after es ps (run .checked) cs (run .octets .1) .linked .good) (began-so es ps (run .checked) cs (run .octets .1) e) c in
-        ap (impliedBy ps) n ∙ sym (cond-no _ [] _ (sym is ∙ e))

@@ -40,11 +40,11 @@ use Rattle.decoder_state.proofs.Kept.{opens-length, waits-length}
 use Rattle.decoder_decide.proofs.Judged.{pick}
 use Rattle.tag_decoder.specs.Fits.{Fits}
 use Rattle.tag_decoder.proofs.Fitting.{decide-fits, hands-out, closes, starts as start-fits, passes-on}
-use Rattle.guarantees.specs.Calls.{impliedBy}
+use Rattle.guarantees.specs.Settling.{impliedBy}
 use Rattle.guarantees.specs.History.{Started, declaredEnd, endAfter, afterAnswer, outermostEnd, leftByAnswer, leftByEnd}
 use Rattle.guarantees.specs.Promises.{valueKind, EndMatches}
-use Rattle.guarantees.proofs.Decided.{allMasters, is-master, Mild, Reading, InsideSize, Small, Heads, Starts, Holds, Closes, Facts, NoteFacts, decide-facts}
 use Rattle.guarantees.proofs.Ends.{knownEnd, endedBy, every-reversed}
+use Rattle.guarantees.proofs.Decided.{allMasters, is-master, Mild, Reading, InsideSize, Small, Heads, Starts, Holds, Closes, Facts, NoteFacts, decide-facts}
 use Rattle.guarantees.proofs.Tied.{asStarted, parentOf, asEnd, stack, allEnded, Linked, Tied, both-empty}
 use Rattle.guarantees.proofs.Outermost.{none-batch, batch-less, all-batch, batch-closed}
 use Rattle.guarantees.proofs.Moves.{none-ended, moved-linked, settled-linked, opened-linked, handed-linked, closed-linked}

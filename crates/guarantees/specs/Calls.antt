@@ -1,24 +1,16 @@
 -- Any calls on one decoder that begins fresh, with what each of them answers, by the very definitions that the routines' contracts cite.
 -- A list of calls stands latest first.
 use Prim.Native.Nat.{ℕ}
-use mathlib.Core.Bool.{Bool, cond}
-use mathlib.Core.List.{List, [], _∷_, map, reverse}
-use lib.ListN.{length}
+use mathlib.Core.Bool.{Bool}
+use mathlib.Core.List.{List, [], _∷_}
 use Rattle.tools.specs.Bytes.{Octets}
-use Rattle.table.specs.Table.{Entry, tableOf, partsOf, within}
-use Rattle.spec_util.specs.declared.types.OpenTag.{OpenTag}
-use Rattle.tag_parse.specs.Header.{readHeader}
-use Rattle.tag_parse.specs.declared.types.ReadHeader.{ReadHeader}
-use Rattle.tag_parse.specs.declared.types.ReadHeader.the-variants as header
-use Rattle.decoder_state.specs.State.{fresh, implied}
-use Rattle.decoder_state.specs.OneCall.{refused12, step6, step7, noted, validHeader, passes, forward, decide, decode, decodeEof, tryRecover}
+use Rattle.decoder_state.specs.State.{fresh}
+use Rattle.decoder_state.specs.OneCall.{errorNumber, decode, decodeEof, tryRecover}
 use Rattle.decoder_state.specs.declared.types.Answer.{Answer}
-use Rattle.decoder_state.specs.declared.types.Check.{Check}
-use Rattle.decoder_state.specs.declared.types.Check.the-variants.{Pass, Fail}
+use Rattle.decoder_state.specs.declared.types.Answer.the-variants as answer
 use Rattle.decoder_state.specs.declared.types.Given.{Given}
-use Rattle.decoder_state.specs.declared.types.Note.{Note}
-use Rattle.decoder_state.specs.declared.types.Note.the-variants.{NoNote, Settle}
 use Rattle.decoder_state.specs.declared.types.Search.{Search}
+use Rattle.decoder_state.specs.declared.types.Search.the-variants as search
 use Rattle.decoder_state.specs.declared.types.TagDecoder.{TagDecoder}
 use Rattle.tag_decoder.specs.Settings.{allowing, limitedTo}
 
@@ -62,55 +54,33 @@ module _ (es ps : List ℕ) where
   next d (allow ids hierarchy oversized) = allowing d ids hierarchy oversized
   next d (limit n) = limitedTo d n
 
--- ---- the parents that a call implies, where reading began below the root: innermost first
+-- the number of a refusal; 0 for any other answer
+abbrev pub answerRefusal : Answer → ℕ
+answerRefusal (answer.Event e) = 0
+answerRefusal answer.NeedMore = 0
+answerRefusal answer.Finished = 0
+answerRefusal (answer.Refused r) = errorNumber (r .error)
 
--- of a settling note, the IDs of its path
-unfoldable pub impliedBy : List ℕ → Note → List ℕ
-impliedBy ps NoNote = []
-impliedBy ps (Settle path) = map (λ (m : OpenTag). m .id) (reverse (map implied (within (partsOf ps) path)))
+abbrev pub searchRefusal : Search → ℕ
+searchRefusal search.Found = 0
+searchRefusal search.NotFound = 0
+searchRefusal (search.Refused r) = errorNumber (r .error)
 
--- the first of two notes that is one
-abbrev pub orElse : Note → Note → Note
-orElse NoNote later = later
-orElse (Settle path) later = Settle path
-
--- the note that a recovery leaves, as `scan` goes on: at this place, or further on where this place fails
-unfoldable pub placeNote : List ℕ → List Entry → TagDecoder → ReadHeader → (TagDecoder → Note) → Note
-placeNote ps t e header.NeedMore on = NoNote
-placeNote ps t e (header.Refused x) on = on (forward e)
-placeNote ps t e (header.Header h) on =
-    cond (step6 e h)
-    (orElse (step7 ps e h)
-    (cond (passes (validHeader t (noted ps e (step7 ps e h)) h)) NoNote (on (forward (noted ps e (step7 ps e h))))))
-    (on (forward e))
-
-unfoldable pub scanNote : List ℕ → List Entry → TagDecoder → List ℕ → Note
-scanNote ps t e [] = NoNote
-scanNote ps t e (b ∷ s) = placeNote ps t e (readHeader t (b ∷ s)) (λ later. scanNote ps t later s)
-
-abbrev pub scanNoteOr : List ℕ → List Entry → TagDecoder → List ℕ → Check → Note
-scanNoteOr ps t d s Pass = scanNote ps t d s
-scanNoteOr ps t d s (Fail e) = NoNote
-
-module _ (es ps : List ℕ) where
-  abbrev pub noteOf : TagDecoder → Call → Note
-  noteOf d (decoding s) = decide es ps d s .note
-  noteOf d (ending s) = decide es ps d s .note
-  noteOf d (recovering s) = scanNoteOr ps (tableOf es ps) d s (refused12 es ps d (length s))
-  noteOf d (allow ids hierarchy oversized) = NoNote
-  noteOf d (limit n) = NoNote
+abbrev pub refusalOf : Told → ℕ
+refusalOf (answered a n) = answerRefusal a
+refusalOf (searched a n) = searchRefusal a
+refusalOf silent = 0
 
 -- ---- a run
 
--- one call of a run: what was asked, what was answered, and the parents that it implied
+-- one call of a run: what was asked, and what was answered
 pub record Step : Type 0 where
   pub call : Call
   pub told : Told
-  pub parents : List ℕ
 
 module _ (es ps : List ℕ) where
   abbrev pub stepOf : TagDecoder → Call → Step
-  stepOf d c = record { call = c; told = toldBy es ps d c; parents = impliedBy ps (noteOf es ps d c) }
+  stepOf d c = record { call = c; told = toldBy es ps d c }
 
   -- the record after these calls on a fresh decoder
   unfoldable pub recordAfter : List Call → TagDecoder

@@ -1,7 +1,7 @@
 -- Demand 3 as one statement: what a checked table guarantees over any calls. "Fix one table that the table check passes. From a fresh decoder, over any
 -- calls (decode, end of input, recovery, with any bytes lent at each call; settings changed at any time), prove of the events that the answers of those
 -- very routines carry" the five promises, and three more. Each field speaks of a call c after any calls cs, so of each call of any run.
-use Prim.Native.Nat.{ℕ, _+_, _≤_, _<_}
+use Prim.Native.Nat.{ℕ, _+_, _≤_}
 use mathlib.Core.Path.{_≡_}
 use mathlib.Core.Bool.{true, false}
 use mathlib.Core.List.{List, [], _∷_}
@@ -11,9 +11,9 @@ use Rattle.decoder_state.specs.declared.types.Answer.the-variants.{Event, Finis
 use Rattle.decoder_state.specs.declared.types.Event.{Event as AnEvent}
 use Rattle.decoder_state.specs.declared.types.Event.the-variants.{End}
 use Rattle.decoder_state.specs.declared.types.Given.the-variants.{Number}
-use Rattle.guarantees.specs.Calls.{Call, ending, lent, recordAfter, history, Lent}
+use Rattle.guarantees.specs.Calls.{Call, ending, lent, recordAfter, history, Lent, answerRefusal, refusalOf}
 use Rattle.guarantees.specs.History.{declaredEnd, startsDeclared, parentsLeft, childTestNeverOff, neverRecovered}
-use Rattle.guarantees.specs.Promises.{answerRefusal, refusalOf, eventKind, eventId, elementOffset, lastTold, Answers, openAt, leftAt, placeAt, EndMatches, EndsInside, NotFull, EndOr23, endingAgain, atTheEnd}
+use Rattle.guarantees.specs.Promises.{eventKind, eventId, elementOffset, lastTold, Answers, openAt, leftAt, placeAt, EndMatches, EndsInside, NotFull, EndOr23, endingAgain, atTheEnd}
 
 pub record Demand3 (es ps : List ℕ) : Type 0 where
   -- 1. "The refusal "table fault" (24) never comes."
@@ -33,7 +33,7 @@ pub record Demand3 (es ps : List ℕ) : Type 0 where
   -- "refusal 11 never comes from a fresh decoder"
   pub no-bad-state : (cs : List Call) (c : Call) → Lent (c ∷ cs) → refusalOf (lastTold es ps cs c) ≡ 11 → ⊥
   -- the limits: at most 32 masters are open or wait for their End, the implied ones with them, and 19 comes only where it is 32
-  pub at-most-32 : (cs : List Call) → Lent cs → length (openAt es ps cs) + length (parentsLeft (tableOf es ps) (history es ps cs)) ≤ 32
+  pub at-most-32 : (cs : List Call) → Lent cs → length (openAt es ps cs) + length (parentsLeft ps (tableOf es ps) (history es ps cs)) ≤ 32
   pub arrays-hold : (cs : List Call) → Lent cs → recordAfter es ps cs .«open_count» + recordAfter es ps cs .«waiting_count» ≤ 32
   pub at-19-full : (cs : List Call) (c : Call) → Lent (c ∷ cs) → refusalOf (lastTold es ps cs c) ≡ 19 → length (openAt es ps cs) + length (leftAt es ps cs c) ≡ 32
   -- "a record that was cut cannot look whole: if the input ends while a master of known size is open and not full, the end of input answers 23 and no finish":

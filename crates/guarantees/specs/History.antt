@@ -1,6 +1,5 @@
--- What a caller can tell from the calls and their answers: the Starts that have not had their End, the implied parents that are left, and the position. Starts,
--- ends and position come from the events, the bytes lent and the counts of bytes taken, and not from the decoder's record; the parents that a call
--- implies stand in its step (Calls.antt), since no answer names them. A history stands latest first.
+-- What a caller can tell from the calls and their answers alone: the Starts that have not had their End, the implied parents that are left, and the position.
+-- Nothing here is read off the decoder's record. A history stands latest first.
 use Prim.Native.Nat.{ℕ, _+_}
 use mathlib.Core.Bool.{Bool, true, false, not, _&&_}
 use mathlib.Core.List.{List, [], _∷_, _++_, map}
@@ -20,6 +19,7 @@ use Rattle.decoder_state.specs.declared.types.Given.the-variants.{Nothing, Numb
 use Rattle.decoder_state.specs.declared.types.Search.{Search}
 use Rattle.decoder_state.specs.declared.types.Search.the-variants as search
 use Rattle.guarantees.specs.Calls.{Call, decoding, ending, recovering, allow, limit, lent, Told, answered, searched, silent, Step}
+use Rattle.guarantees.specs.Settling.{seenParents}
 
 -- ---- where an element ends
 
@@ -123,9 +123,9 @@ leftBy (answered a n) starts l = leftByAnswer a starts l
 leftBy (searched a n) starts l = l
 leftBy silent starts l = l
 
-unfoldable pub parentsLeft : List Entry → List Step → List ℕ
-parentsLeft t [] = []
-parentsLeft t (s ∷ h) = leftBy (s .told) (startsOpen t h) (s .parents ++ parentsLeft t h)
+unfoldable pub parentsLeft : List ℕ → List Entry → List Step → List ℕ
+parentsLeft ps t [] = []
+parentsLeft ps t (s ∷ h) = leftBy (s .told) (startsOpen t h) (seenParents ps t h (lent (s .call)) (s .told) ++ parentsLeft ps t h)
 
 -- ---- the position, which is the count of all bytes taken
 

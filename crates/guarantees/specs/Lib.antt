@@ -1,5 +1,5 @@
 pub mod Calls
+pub mod Settling
 pub mod History
 pub mod Promises
-pub mod Seen
 pub mod Demand3

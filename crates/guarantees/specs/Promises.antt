@@ -16,29 +16,11 @@ use Rattle.decoder_state.specs.declared.types.Event.{Event}
 use Rattle.decoder_state.specs.declared.types.Event.the-variants as event
 use Rattle.decoder_state.specs.declared.types.Given.{Given}
 use Rattle.decoder_state.specs.declared.types.Given.the-variants.{Nothing, Number}
-use Rattle.decoder_state.specs.declared.types.Search.{Search}
-use Rattle.decoder_state.specs.declared.types.Search.the-variants as search
-use Rattle.guarantees.specs.Calls.{Call, ending, Told, answered, searched, silent, toldBy, impliedBy, noteOf, recordAfter, history, Lent}
+use Rattle.guarantees.specs.Calls.{lent, Call, ending, Told, answered, toldBy, recordAfter, history, Lent}
+use Rattle.guarantees.specs.Settling.{seenParents}
 use Rattle.guarantees.specs.History.{Started, startsOpen, parentsLeft, position}
 
 -- ---- what stands in an answer
-
--- the number of a refusal; 0 for any other answer
-abbrev pub answerRefusal : Answer → ℕ
-answerRefusal (answer.Event e) = 0
-answerRefusal answer.NeedMore = 0
-answerRefusal answer.Finished = 0
-answerRefusal (answer.Refused r) = errorNumber (r .error)
-
-abbrev pub searchRefusal : Search → ℕ
-searchRefusal search.Found = 0
-searchRefusal search.NotFound = 0
-searchRefusal (search.Refused r) = errorNumber (r .error)
-
-abbrev pub refusalOf : Told → ℕ
-refusalOf (answered a n) = answerRefusal a
-refusalOf (searched a n) = searchRefusal a
-refusalOf silent = 0
 
 -- the kind of a value: raw stands for an ID to which the table gives no type
 abbrev pub valueKind : TagValue → TagDataType
@@ -86,7 +68,7 @@ abbrev pub openAt : List ℕ → List ℕ → List Call → List Started
 openAt es ps cs = startsOpen (tableOf es ps) (history es ps cs)
 
 abbrev pub leftAt : List ℕ → List ℕ → List Call → Call → List ℕ
-leftAt es ps cs c = impliedBy ps (noteOf es ps (recordAfter es ps cs) c) ++ parentsLeft (tableOf es ps) (history es ps cs)
+leftAt es ps cs c = seenParents ps (tableOf es ps) (history es ps cs) (lent c) (lastTold es ps cs c) ++ parentsLeft ps (tableOf es ps) (history es ps cs)
 
 -- the position there
 abbrev pub placeAt : List ℕ → List ℕ → List Call → ℕ

@@ -2,21 +2,31 @@
 -- all IDs (or empty), the stack becomes those IDs".
 use Prim.Native.Nat.{ℕ, zero, suc}
 use mathlib.Core.Bool.{Bool, true, false, cond, _&&_, _||_}
-use mathlib.Core.List.{List, [], _∷_}
+use mathlib.Core.List.{List, [], _∷_, map, reverse}
 use lib.Dec.{eqb}
 use lib.ListN.{drop}
 use Rattle.table.specs.Check.{onlyIds}
 use Rattle.table.specs.Table.{Entry, partsOf, within, isTyped}
+use Rattle.spec_util.specs.declared.types.OpenTag.{OpenTag}
 use Rattle.tag_parse.specs.Header.{readHeader}
 use Rattle.tag_parse.specs.declared.types.ReadHeader.{ReadHeader}
 use Rattle.tag_parse.specs.declared.types.ReadHeader.the-variants as header
-use Rattle.decoder_state.specs.declared.types.Answer.{Answer}
+use Rattle.decoder_state.specs.State.{implied}
 use Rattle.decoder_state.specs.declared.types.Note.{Note}
 use Rattle.decoder_state.specs.declared.types.Note.the-variants.{NoNote, Settle}
 use Rattle.decoder_state.specs.declared.types.Search.{Search}
 use Rattle.decoder_state.specs.declared.types.Search.the-variants as search
-use Rattle.guarantees.specs.Calls.{lent, Told, answered, searched, silent, impliedBy, orElse, Step}
-use Rattle.guarantees.specs.Promises.{answerRefusal}
+use Rattle.guarantees.specs.Calls.{lent, Told, answered, searched, silent, answerRefusal, Step}
+
+-- of a settling note, the IDs of its path
+unfoldable pub impliedBy : List ℕ → Note → List ℕ
+impliedBy ps NoNote = []
+impliedBy ps (Settle path) = map (λ (m : OpenTag). m .id) (reverse (map implied (within (partsOf ps) path)))
+
+-- the first of two notes that is one
+abbrev pub orElse : Note → Note → Note
+orElse NoNote later = later
+orElse (Settle path) later = Settle path
 
 -- the header at the front settles, where nothing has settled yet
 abbrev pub settleHeader : List ℕ → ReadHeader → Note
