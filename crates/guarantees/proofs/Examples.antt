@@ -23,7 +23,7 @@ use Rattle.decoder_state.specs.State.{endFor, withOpen, withWaiting, withNotes,
 use Rattle.decoder_state.specs.OneCall.{goodOpen, goodState, refused12, refused13, isDone, firstIndex, closing, noted, step8, reaches, step9, validHeader, endedTops, element, elementOf, step11, steps10-11, steps8-11, steps6-11, step5, steps4-11, steps2-11, decide, move, apply, cutBytes, isCut, finish, closeAll, ended, decodeEof, atPlace, scan, tryRecover}
 use Rattle.decoder_state.specs.declared.types.Given.the-variants.{Nothing, Number}
 use Rattle.decoder_state.proofs.Starred.{entries, parts}
-use Rattle.guarantees.specs.Calls.{Call, ending, recovering, recordAfter, history, answerRefusal}
+use Rattle.guarantees.specs.Calls.{Call, decoding, ending, recovering, recordAfter, history, answerRefusal}
 use Rattle.guarantees.specs.Settling.{impliedBy, settleAt, settleWithin, settledSeen}
 use Rattle.guarantees.specs.History.{Started, declaredEnd, later, startsOpen, parentsLeft, position}
 use Rattle.guarantees.specs.Promises.{atTheEnd}
@@ -68,6 +68,10 @@ pub record Seen : Type 0 where
   pub recovered : seen (recovering (0x00 ∷ 0x00 ∷ 0xA3 ∷ 0x80 ∷ []) ∷ lending (3 ∷ 2 ∷ 3 ∷ []) d1 []) ≡ (record { id = 0xA1; offset = 3; end = Number 14 } ∷ record { id = 0x4E01; offset = 0; end = Number 14 } ∷ [], [], 10)
   -- a recovery on a fresh decoder settles
   pub implying : seen (recovering d5 ∷ []) ≡ ([], 0xA1 ∷ 0x4E01 ∷ [], 0)
+  -- a place that settles and then fails (17) leaves its parents implied
+  pub implying-failed : seen (recovering (0xA4 ∷ 0x08 ∷ 0xEE ∷ 0x6B ∷ 0x28 ∷ 0x01 ∷ []) ∷ []) ≡ ([], 0xA1 ∷ 0x4E01 ∷ [], 1)
+  -- 13 settles nothing
+  pub not-read : seen (decoding d5 ∷ ending [] ∷ []) ≡ ([], [], 0)
 
 pub seen-so : Seen
 unfolding signedOf nanBits toBits ofBits leadingZeros beFrom readVint arrToU64 arrToI64 arrToF64 widened fits rows firstFit textAfter every any goodPart goodParts goodEntry goodEntries goodShape onlyIds threes fours boundOf partOf sameBound samePart samePath kindOf isMaster clipped entryOf tableOf entryFor isIdOf hasId isTyped isParent isSibling isTypedRoot isEndedBy overMax underMin isIdAt walkGlobal walkAt walkPart unknownAndEnded walkMaster minMet walkEnd goOn walkFrom validateTagPath readTagId sizeOf tooLong sizedBy sized afterId readHeader readData endFor withOpen withWaiting withNotes settledTo opened closedTo handedOut grownBy grown goodOpen goodState refused12 refused13 isDone firstIndex closing noted step8 reaches step9 validHeader endedTops element elementOf step11 steps10-11 steps8-11 steps6-11 step5 steps4-11 steps2-11 decide move apply cutBytes isCut finish closeAll ended decodeEof scan atPlace tryRecover recordAfter history impliedBy settleAt settleWithin settledSeen declaredEnd later startsOpen parentsLeft position lending
@@ -83,4 +87,6 @@ seen-so = record {
   d5-finish = refl;
   recovered = refl;
   implying = refl;
+  implying-failed = refl;
+  not-read = refl;
 }
