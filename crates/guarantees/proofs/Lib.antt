@@ -10,6 +10,7 @@ pub mod Recovery
 pub mod Seen
 pub mod AnyCalls
 pub mod Guarantees
+pub mod Finish
 pub mod Cut
 pub mod Nested
 pub mod Night
