@@ -32,7 +32,7 @@ use Rattle.guarantees.proofs.Notes.{scanNoteOr, noteOf}
 use Rattle.guarantees.proofs.Decided.{NoteFacts, decide-facts}
 use Rattle.guarantees.proofs.Tied.{stack, Tied, fresh-tied}
 use Rattle.guarantees.proofs.Moves.{settings-linked}
-use Rattle.guarantees.proofs.Steps.{AnswerFacts, stack-length, unsettled-waiting, Measured, Batch, decode-called, eof-called}
+use Rattle.guarantees.proofs.Steps.{AnswerFacts, Quiet, stack-length, unsettled-waiting, Measured, Batch, decode-called, eof-called}
 use Rattle.guarantees.proofs.Seen.{Began, next-settled, note-seen}
 use Rattle.guarantees.proofs.Recovery.{SearchFacts, scan-settled, recover-searched, recover-keeps}
 
@@ -61,12 +61,18 @@ BatchTold l p (answered a n) e = Batch l p a e
 BatchTold l p (searched a n) e = Unit {0}
 BatchTold l p silent e = Unit {0}
 
+abbrev pub QuietTold : Told → TagDecoder → Type 0
+QuietTold (answered a n) e = Quiet a n e
+QuietTold (searched a n) e = Unit {0}
+QuietTold silent e = Unit {0}
+
 -- the promises of what the call c tells, and the invariant after it; left has the parents that c implies
 pub record After (es ps : List ℕ) (d : TagDecoder) (starts : List Started) (left : List ℕ) (p : ℕ) (c : Call) : Type 0 where
   pub promised : ToldFacts (tableOf es ps) (d .«allow_oversized») (lent c) starts left p (toldBy es ps d c)
   pub tied :
       Tied (tableOf es ps) (next es ps d c) (afterTold (tableOf es ps) (lent c) (toldBy es ps d c) starts) (leftBy (toldBy es ps d c) starts left) (p + takenBy (toldBy es ps d c))
   pub measured : MeasuredTold (tableOf es ps) (lent c) p (toldBy es ps d c)
+  pub quiet : QuietTold (toldBy es ps d c) (next es ps d c)
   pub batch : BatchTold (stack starts left) p (toldBy es ps d c) (next es ps d c)
   -- the child-size test is on after it as the call says
   pub test : not (next es ps d c .«allow_oversized») ≡ testAfter c (not (d .«allow_oversized»))
@@ -97,15 +103,15 @@ module _ (es ps : List ℕ) (checked : checkTable es ps ≡ Passed) (d : TagDeco
   unfolding impliedBy withSettings
   after (decoding s) byte =
       let c = decode-called es ps (good-shape es ps checked) (passed-gives es ps checked) d s byte starts left p k in
-      record { promised = c .promised; tied = c .tied; measured = c .measured; batch = c .batch; test = ap not (c .kept) }
+      record { promised = c .promised; tied = c .tied; measured = c .measured; quiet = c .quiet; batch = c .batch; test = ap not (c .kept) }
   after (ending s) byte =
       let c = eof-called es ps (good-shape es ps checked) (passed-gives es ps checked) d s byte starts left p k in
-      record { promised = c .promised; tied = c .tied; measured = c .measured; batch = c .batch; test = ap not (c .kept) }
+      record { promised = c .promised; tied = c .tied; measured = c .measured; quiet = c .quiet; batch = c .batch; test = ap not (c .kept) }
   after (recovering s) byte =
       let c = recover-searched es ps (good-shape es ps checked) (passed-gives es ps checked) starts d s left p k in
-      record { promised = c .promised; tied = c .tied; measured = tt; batch = tt; test = ap not (recover-keeps es ps d s) }
-  after (allow ids hierarchy oversized) byte = record { promised = tt; tied = set-tied ids hierarchy oversized (d .«max_given») (d .«max_size»); measured = tt; batch = tt; test = set-test ids hierarchy oversized }
-  after (limit n) byte = record { promised = tt; tied = limited n; measured = tt; batch = tt; test = same-test n }
+      record { promised = c .promised; tied = c .tied; measured = tt; quiet = tt; batch = tt; test = ap not (recover-keeps es ps d s) }
+  after (allow ids hierarchy oversized) byte = record { promised = tt; tied = set-tied ids hierarchy oversized (d .«max_given») (d .«max_size»); measured = tt; quiet = tt; batch = tt; test = set-test ids hierarchy oversized }
+  after (limit n) byte = record { promised = tt; tied = limited n; measured = tt; quiet = tt; batch = tt; test = same-test n }
 
   -- ---- a settled record implies no parent
 

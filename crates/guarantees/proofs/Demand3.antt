@@ -10,6 +10,7 @@ use Rattle.guarantees.specs.Promises.{Runs}
 use Rattle.guarantees.specs.Demand3.{Demand3}
 use Rattle.guarantees.proofs.Night.{one-more, cut-night}
 use Rattle.guarantees.proofs.Guarantees as promise
+use Rattle.guarantees.proofs.Finish.{finish-closes-parents}
 use Rattle.guarantees.proofs.Cut as cut
 
 pub demand-3 : (es ps : List ℕ) → checkTable es ps ≡ Passed → Demand3 es ps
@@ -18,6 +19,7 @@ demand-3 es ps checked = record {
   kind-of-table = λ cs c l. promise.kind-of-table es ps cs c (runs (c ∷ cs) l);
   end-matches = λ cs c l. promise.end-matches es ps cs c (runs (c ∷ cs) l);
   finish-closes = λ cs c l. promise.finish-closes es ps cs c (runs (c ∷ cs) l);
+  finish-closes-parents = λ cs c l. finish-closes-parents es ps cs c (runs (c ∷ cs) l);
   element-ends-inside = λ cs c l. promise.element-ends-inside es ps cs c (runs (c ∷ cs) l);
   no-bad-state = λ cs c l. promise.no-bad-state es ps cs c (runs (c ∷ cs) l);
   at-most-32 = λ cs l. promise.at-most-32 es ps cs (runs cs l);

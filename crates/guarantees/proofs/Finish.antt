@@ -1,9 +1,9 @@
 -- Beyond promise 4: where there was no recovery, the implied parents too have had their Ends when the finish is answered. After the end of input nothing is
 -- open in the record, and no call but a recovery opens anything then. Assumes nothing.
-use Prim.Native.Nat.{ℕ, _+_, _-_, _<_}
+use Prim.Native.Nat.{ℕ}
 use mathlib.Core.Path.{_≡_, refl, sym, ap, _∙_, subst}
-use mathlib.Core.Bool.{Bool, true, false, cond, _&&_, true≢false, false≢true}
-use mathlib.Core.List.{List, [], _∷_, _++_}
+use mathlib.Core.Bool.{true, true≢false, false≢true}
+use mathlib.Core.List.{List, [], _∷_}
 use native.Mathlib.Omega.{arith}
 use borrow.Author.Tests.{eqb-true}
 use lib.Dec.{ltb, eqb}
@@ -21,7 +21,6 @@ use Rattle.decoder_state.specs.declared.types.Check.{Check}
 use Rattle.decoder_state.specs.declared.types.Check.the-variants.{Pass, Fail}
 use Rattle.decoder_state.specs.declared.types.Decision.{Decision}
 use Rattle.decoder_state.specs.declared.types.Decoded.{Decoded}
-use Rattle.decoder_state.specs.declared.types.DecodeError.{DecodeError}
 use Rattle.decoder_state.specs.declared.types.DecodeError.the-variants as error
 use Rattle.decoder_state.specs.declared.types.Given.{Given}
 use Rattle.decoder_state.specs.declared.types.Given.the-variants.{Nothing, Number}
@@ -30,10 +29,13 @@ use Rattle.decoder_state.specs.declared.types.Note.the-variants.{NoNote, Settle
 use Rattle.decoder_state.specs.declared.types.TagDecoder.{TagDecoder}
 use Rattle.decoder_state.proofs.Good.{both}
 use Rattle.decoder_decide.proofs.Judged.{pick}
-use Rattle.tag_decoder.specs.Settings.{withSettings, allowing, limitedTo}
-use Rattle.guarantees.specs.Calls.{Call, decoding, ending, recovering, allow, limit, lent, answered, toldBy, next, recordAfter, history, Lent}
-use Rattle.guarantees.specs.History.{startsOpen, parentsLeft, isNoRecovery, neverRecovered}
-use Rattle.guarantees.specs.Promises.{Runs, Answers, openAt, leftAt, placeAt}
+use Rattle.tag_decoder.specs.Settings.{withSettings, limitedTo}
+use Rattle.guarantees.specs.Calls.{Call, decoding, ending, recovering, allow, limit, Told, next, recordAfter, history}
+use Rattle.guarantees.specs.History.{leftBy, parentsLeft, isNoRecovery, neverRecovered}
+use Rattle.guarantees.specs.Promises.{Runs, Answers, openAt, leftAt}
+use Rattle.guarantees.proofs.Tied.{none-open}
+use Rattle.guarantees.proofs.Steps.{no-starts, stack-length}
+use Rattle.guarantees.proofs.AnyCalls.{QuietTold, tied-after, promised-after}
 
 -- after the end of input nothing is open
 abbrev pub Emptied : TagDecoder → Type 0
@@ -133,3 +135,42 @@ eof-emptied es ps d s h = go (decode es ps d s .answer)
     go answer.NeedMore = unfold EmptiedBy in ended-emptied (tableOf es ps) (r .state) s (decode-emptied es ps d s h)
     go answer.Finished = unfold EmptiedBy in ended-emptied (tableOf es ps) (r .state) s (decode-emptied es ps d s h)
     go (answer.Refused e) = decode-emptied es ps d s h
+
+-- ---- any calls
+
+module _ (es ps : List ℕ) (d : TagDecoder) (h : Emptied d) where
+  limit-emptied : (n : Given) → Emptied (limitedTo d n)
+  unfolding withSettings
+  limit-emptied Nothing = h
+  limit-emptied (Number n) = h
+
+  next-emptied : (c : Call) → isNoRecovery c ≡ true → Emptied (next es ps d c)
+  unfolding withSettings
+  next-emptied (decoding s) e = decode-emptied es ps d s h
+  next-emptied (ending s) e = eof-emptied es ps d s h
+  next-emptied (recovering s) e = absurd (false≢true e)
+  next-emptied (allow ids hierarchy oversized) e = h
+  next-emptied (limit n) e = limit-emptied n
+
+emptied-after : (es ps : List ℕ) (cs : List Call) → neverRecovered cs ≡ true → Emptied (recordAfter es ps cs)
+unfolding recordAfter neverRecovered
+emptied-after es ps [] e = λ f. refl
+emptied-after es ps (c ∷ cs) e =
+    let b = both (isNoRecovery c) (neverRecovered cs) e in
+    next-emptied es ps (recordAfter es ps cs) (emptied-after es ps cs (b .right)) c (b .left)
+
+-- a call that answers the finish leaves the implied parents as they were
+finish-left : (es ps : List ℕ) (cs : List Call) (c : Call) → Answers es ps cs c answer.Finished → parentsLeft ps (tableOf es ps) (history es ps (c ∷ cs)) ≡ leftAt es ps cs c
+unfolding history parentsLeft
+finish-left es ps cs c a = ap (λ (x : Told). leftBy x (openAt es ps cs) (leftAt es ps cs c)) (a .1)
+
+-- "When the finish is answered, every Start has had its End", and where no call was a recovery every implied parent too
+pub finish-closes-parents : (es ps : List ℕ) (cs : List Call) (c : Call) → Runs es ps (c ∷ cs) → neverRecovered (c ∷ cs) ≡ true → Answers es ps cs c answer.Finished → leftAt es ps cs c ≡ []
+unfolding recordAfter
+finish-closes-parents es ps cs c run none a =
+    let e = next es ps (recordAfter es ps cs) c in
+    let q = subst (λ (x : Told). QuietTold x e) (a .1) (promised-after es ps cs c run .quiet) in
+    let k = tied-after es ps (run .checked) (c ∷ cs) (run .octets) in
+    let l = stack-length (tableOf es ps) e _ _ _ (k .linked) (q .1) in
+    let z : e .«open_count» ≡ 0 = emptied-after es ps (c ∷ cs) none (q .2) in
+    sym (finish-left es ps cs c a) ∙ none-open (openAt es ps (c ∷ cs)) (parentsLeft ps (tableOf es ps) (history es ps (c ∷ cs))) (no-starts _ (omega arith)) .1

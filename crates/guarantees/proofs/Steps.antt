@@ -87,11 +87,11 @@ module _ (t : List Entry) (off : Bool) (s : List ℕ) (starts : List Started) (l
   AnswerFacts answer.Finished = starts ≡ []
   AnswerFacts (answer.Refused r) = RefusalFacts (r .error)
 
--- an answer that ends the events takes nothing and leaves no End waiting
+-- an answer that ends the events takes nothing and leaves no End waiting; the finish is answered of a record that is finished
 abbrev pub Quiet : Answer → ℕ → TagDecoder → Type 0
 Quiet (answer.Event e) n d = Unit {0}
 Quiet answer.NeedMore n d = (n ≡ 0) × (d .«waiting_count» ≡ 0)
-Quiet answer.Finished n d = (n ≡ 0) × (d .«waiting_count» ≡ 0)
+Quiet answer.Finished n d = (n ≡ 0) × (d .«waiting_count» ≡ 0) × (d .finished ≡ true)
 Quiet (answer.Refused r) n d = Unit {0}
 
 -- a Data takes its element whole
@@ -203,7 +203,7 @@ module _ (t : List Entry) (d : TagDecoder) (s : List ℕ) (starts : List Started
   more-called r = record { promised = tt; quiet = (refl, r .none-waiting); measured = tt; batch = tt; tied = same-place; closes-full = k .full; kept = refl }
 
   finished-called : d .«waiting_count» ≡ 0 → d .finished ≡ true → Called t (d .«allow_oversized») s starts left (d .position) answer.Finished 0 d
-  finished-called w f = record { promised = no-starts starts (omega (arith, k .finished f)); quiet = (refl, w); measured = tt; batch = tt; tied = same-place; closes-full = k .full; kept = refl }
+  finished-called w f = record { promised = no-starts starts (omega (arith, k .finished f)); quiet = (refl, w, f); measured = tt; batch = tt; tied = same-place; closes-full = k .full; kept = refl }
 
   handed-called : 0 < d .«waiting_count»
       → Called t (d .«allow_oversized») s starts left (d .position) (answer.Event (event.End (getD (d .waiting) 0 noEnd .id) (getD (d .waiting) 0 noEnd .offset))) 0 (handedOut d)
@@ -425,7 +425,7 @@ module _ (t : List Entry) (off : Bool) (d : TagDecoder) (s : List ℕ) (starts :
         let empty : starts ≡ [] = no-starts starts (omega (arith, few-starts)) in
         record {
           promised = empty;
-          quiet = (refl, none);
+          quiet = (refl, none, refl);
           measured = tt;
           batch = tt;
           tied = record {
@@ -495,7 +495,7 @@ module _ (es ps : List ℕ) (shape : goodShape es ps ≡ true) (passed : PassedT
       → CalledAs (endedOr (tableOf es ps) s r a .answer) (endedOr (tableOf es ps) s r a .taken) (endedOr (tableOf es ps) s r a .state)
   eof-go r c (answer.Event x) e = c
   eof-go r c answer.NeedMore e = let c' : CalledAs answer.NeedMore (r .taken) (r .state) = subst (λ (a : Answer). CalledAs a (r .taken) (r .state)) e c in after-events r (c' .tied) (c' .quiet) (c' .kept)
-  eof-go r c answer.Finished e = let c' : CalledAs answer.Finished (r .taken) (r .state) = subst (λ (a : Answer). CalledAs a (r .taken) (r .state)) e c in after-events r (c' .tied) (c' .quiet) (c' .kept)
+  eof-go r c answer.Finished e = let c' : CalledAs answer.Finished (r .taken) (r .state) = subst (λ (a : Answer). CalledAs a (r .taken) (r .state)) e c in after-events r (c' .tied) (c' .quiet .0, c' .quiet .1) (c' .kept)
   eof-go r c (answer.Refused x) e = c
 
   pub eof-called : CalledAs (decodeEof es ps d s .answer) (decodeEof es ps d s .taken) (decodeEof es ps d s .state)

@@ -1,6 +1,6 @@
 -- Demand 3 as one statement: what a checked table guarantees over any calls. "Fix one table that the table check passes. From a fresh decoder, over any
 -- calls (decode, end of input, recovery, with any bytes lent at each call; settings changed at any time), prove of the events that the answers of those
--- very routines carry" the five promises, and three more. Each field speaks of a call c after any calls cs, so of each call of any run.
+-- very routines carry" the five promises, and what stands below them. Each field speaks of a call c after any calls cs, so of each call of any run.
 use Prim.Native.Nat.{ℕ, _+_, _≤_}
 use mathlib.Core.Path.{_≡_}
 use mathlib.Core.Bool.{true, false}
@@ -25,6 +25,8 @@ pub record Demand3 (es ps : List ℕ) : Type 0 where
   pub end-matches : (cs : List Call) (c : Call) → Lent (c ∷ cs) → (x o : ℕ) → Answers es ps cs c (Event (End x o)) → EndMatches (openAt es ps cs) (leftAt es ps cs c) x o
   -- 4. "When the finish is answered, every Start has had its End."
   pub finish-closes : (cs : List Call) (c : Call) → Lent (c ∷ cs) → Answers es ps cs c Finished → openAt es ps cs ≡ []
+  -- and where no call was a recovery, every implied parent too
+  pub finish-closes-parents : (cs : List Call) (c : Call) → Lent (c ∷ cs) → neverRecovered (c ∷ cs) ≡ true → Answers es ps cs c Finished → leftAt es ps cs c ≡ []
   -- 5. "If the child-size test was never switched off and there was no recovery, each element of known size (Start or Data) ends inside every master of
   -- known size then open."
   pub element-ends-inside : (cs : List Call) (c : Call) → Lent (c ∷ cs) → childTestNeverOff cs ≡ true → neverRecovered cs ≡ true → (e : AnEvent) (o end : ℕ)
