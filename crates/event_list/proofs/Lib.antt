@@ -2,6 +2,7 @@ pub mod AnyReads
 pub mod Buffers
 pub mod Cuts
 pub mod Digits
+pub mod Ending
 pub mod Examples
 pub mod Filling
 pub mod Finishing
