@@ -165,7 +165,7 @@ module _ (es ps : List ℕ) (d : TagDecoder) (s u : List ℕ) (byte : getD s 0 0
 
 -- ---- a call that needs more, and the next
 
-more-stays : (e : TagDecoder) (a : Action) → move e a .answer ≡ answer.NeedMore → move e a .state ≡ e
+pub more-stays : (e : TagDecoder) (a : Action) → move e a .answer ≡ answer.NeedMore → move e a .state ≡ e
 unfolding move
 more-stays e (act.Refuse x) q = let z : _≡_ {A = ℕ} 0 1 = cc in absurd (no-answer z)
 more-stays e act.NeedMore q = refl

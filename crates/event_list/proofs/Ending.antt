@@ -5,7 +5,7 @@ use mathlib.Core.Path.{_≡_, refl, sym, ap, _∙_}
 use mathlib.Core.Bool.{Bool, true, false, cond, not, _&&_, false≢true}
 use mathlib.Core.List.{List, [], _∷_, _++_}
 use native.Mathlib.Omega.{arith}
-use borrow.Author.Tests.{ltb-false}
+use borrow.Author.Tests.{ltb-false, eqb-false}
 use lib.Dec.{leb, ltb, eqb}
 use lib.ListN.{length, take, drop}
 use Rattle.tools.specs.Bytes.{Octets}
@@ -23,15 +23,17 @@ use Rattle.tag_parse.specs.declared.types.ReadHeader.the-variants as header
 use Rattle.tag_parse.specs.declared.types.TagHeader.{TagHeader}
 use Rattle.tag_parse.proofs.Headers.{header-sound}
 use Rattle.decoder_state.specs.State.{opens, withOpen, withWaiting, withNotes, settledTo, opened, closedTo, handedOut}
-use Rattle.decoder_state.specs.OneCall.{step1, step3, closing, step6, step7, settles, noted, validHeader, step10, parseError, dataOr, element, elementOf, step11, plain, steps10-11, unless, steps8-11, steps6-11, step5, steps4-11, steps2-11, orRefuse, decide, move, apply, decode}
+use Rattle.decoder_state.specs.OneCall.{step1, step3, closing, step6, step7, settles, noted, validHeader, step10, dataOr, element, elementOf, step11, plain, steps10-11, unless, steps8-11, steps6-11, step5, steps4-11, steps2-11, orRefuse, decide, refuse, move, apply, decode, cutBytes, isCut, firstIndex, finish, closeAll, cutOr, ended, endedOr, decodeEof}
 use Rattle.decoder_state.specs.declared.types.Action.{Action}
 use Rattle.decoder_state.specs.declared.types.Action.the-variants as act
 use Rattle.decoder_state.specs.declared.types.Answer.{Answer}
 use Rattle.decoder_state.specs.declared.types.Answer.the-variants as answer
 use Rattle.decoder_state.specs.declared.types.Check.{Check}
 use Rattle.decoder_state.specs.declared.types.Check.the-variants.{Pass, Fail}
+use Rattle.decoder_state.specs.declared.types.DecodeError.{DecodeError}
 use Rattle.decoder_state.specs.declared.types.DecodeError.the-variants as error
 use Rattle.decoder_state.specs.declared.types.Decision.{Decision}
+use Rattle.decoder_state.specs.declared.types.Decoded.{Decoded}
 use Rattle.decoder_state.specs.declared.types.Event.{Event}
 use Rattle.decoder_state.specs.declared.types.Note.{Note}
 use Rattle.decoder_state.specs.declared.types.Note.the-variants.{NoNote, Settle}
@@ -40,6 +42,9 @@ use Rattle.decoder_state.proofs.Good.{both}
 use Rattle.decoder_decide.proofs.Judged.{pick}
 use Rattle.tag_decoder.specs.Fits.{NoteFits, Fits}
 use Rattle.tag_decoder.proofs.Fitting.{decide-fits, note-settles}
+use Rattle.event_list.specs.BenchTable.{benchEntries, benchParts}
+use Rattle.event_list.specs.Reading.{called}
+use Rattle.event_list.proofs.Cuts.{more-stays}
 use Rattle.event_list.proofs.Settles.{Passed, passed}
 
 no-way : _≡_ {A = ℕ} 0 1 → ⊥
@@ -186,3 +191,75 @@ event-nearer es ps d s byte q =
     let light = note-light es ps d s (a .note) refl (all .note) in
     let less = action-light d e (length s) (a .action) (note-waits ps d (a .note)) (all .action) (decide-steps es ps d s byte) q in
     omega arith
+
+-- ---- a call that needs more, and the end of input
+
+finish-stays : (e : TagDecoder) (a : Action) → move e a .answer ≡ answer.Finished → move e a .state ≡ e
+unfolding move
+finish-stays e (act.Refuse x) q = refl
+finish-stays e act.NeedMore q = refl
+finish-stays e act.Finish q = refl
+finish-stays e act.HandOut q = absurd (let z : _≡_ {A = ℕ} 0 1 = cc in no-way z)
+finish-stays e (act.Close k) q = absurd (let z : _≡_ {A = ℕ} 0 1 = cc in no-way z)
+finish-stays e (act.Start x y l) q = absurd (let z : _≡_ {A = ℕ} 0 1 = cc in no-way z)
+finish-stays e (act.Data x v m) q = absurd (let z : _≡_ {A = ℕ} 0 1 = cc in no-way z)
+
+-- a call with no event leaves a record that is no heavier
+module _ (es ps : List ℕ) (d : TagDecoder) (s : List ℕ) (byte : Octets s) where
+  pub more-light : decode es ps d s .answer ≡ answer.NeedMore → weight (decode es ps d s .state) ≤ weight d
+  unfolding apply
+  more-light q =
+      let x = decide es ps d s in
+      rw (more-stays (noted ps d (x .note)) (x .action) q) (note-light es ps d s (x .note) refl (decide-fits es ps d s byte .note))
+
+  finished-light : decode es ps d s .answer ≡ answer.Finished → weight (decode es ps d s .state) ≤ weight d
+  unfolding apply
+  finished-light q =
+      let x = decide es ps d s in
+      rw (finish-stays (noted ps d (x .note)) (x .action) q) (note-light es ps d s (x .note) refl (decide-fits es ps d s byte .note))
+
+record Nearer (d : TagDecoder) (r : Decoded) : Type 0 where
+  nearer : {x : Event} → r .answer ≡ answer.Event x → (r .taken ≡ 0) × (weight (r .state) < weight d)
+
+refuse-nearer : (d : TagDecoder) (e : DecodeError) (p : ℕ) → Nearer d (refuse e p d)
+refuse-nearer d e p = record { nearer = λ q. absurd (let z : _≡_ {A = ℕ} 0 1 = cc in no-way z) }
+
+finish-nearer : (d : TagDecoder) → Nearer d (finish d)
+unfolding finish move withOpen withWaiting withNotes closedTo
+finish-nearer d =
+    pick (Nearer d) (eqb (d .«open_count») 0) _ _
+    (λ f. record { nearer = λ q. absurd (let z : _≡_ {A = ℕ} 0 1 = cc in no-way z) })
+    (λ f. let n = eqb-false (d .«open_count») 0 f in record { nearer = λ q. (refl, omega arith) })
+
+close-nearer : (t : List Entry) (d : TagDecoder) → Nearer d (closeAll t d)
+unfolding closeAll
+close-nearer t d =
+    pick (Nearer d) (every (λ m. isMaster (dataTypeOf t (m .id))) (opens d)) (finish d) (refuse error.NotAMaster (d .position) d) (λ f. finish-nearer d) (λ f. refuse-nearer d _ _)
+
+ended-nearer : (t : List Entry) (d : TagDecoder) (s : List ℕ) → Nearer d (ended t d s)
+unfolding ended
+ended-nearer t d s =
+    pick (Nearer d) (ltb 0 (length s)) (refuse (error.UnexpectedEOF (cutBytes (d .position) s)) (d .position) d) (cutOr t d (firstIndex (isCut (d .position)) (opens d)))
+    (λ f. refuse-nearer d _ _)
+    (λ f. pick (Nearer d) (ltb (firstIndex (isCut (d .position)) (opens d)) (d .«open_count»)) _ (closeAll t d) (λ g. refuse-nearer d _ _) (λ g. close-nearer t d))
+
+eof-nearer : (es ps : List ℕ) (d : TagDecoder) (s : List ℕ) → Octets s → (a : Answer) → decode es ps d s .answer ≡ a → {x : Event}
+    → endedOr (tableOf es ps) s (decode es ps d s) a .answer ≡ answer.Event x
+    → 256 * (length s - endedOr (tableOf es ps) s (decode es ps d s) a .taken) + weight (endedOr (tableOf es ps) s (decode es ps d s) a .state) < 256 * length s + weight d
+eof-nearer es ps d s byte (answer.Event e) q h = event-nearer es ps d s byte q
+eof-nearer es ps d s byte (answer.Refused r) q h = absurd (let z : _≡_ {A = ℕ} 0 1 = cc in no-way z)
+eof-nearer es ps d s byte answer.NeedMore q h =
+    let n = ended-nearer (tableOf es ps) (decode es ps d s .state) s .nearer h in
+    let light = more-light es ps d s byte q in
+    rw (n .0) (omega (arith, n .1))
+eof-nearer es ps d s byte answer.Finished q h =
+    let n = ended-nearer (tableOf es ps) (decode es ps d s .state) s .nearer h in
+    let light = finished-light es ps d s byte q in
+    rw (n .0) (omega (arith, n .1))
+
+-- an event of the call that is due brings the end nearer
+pub call-nearer : (over : Bool) (d : TagDecoder) (s : List ℕ) → Octets s → {x : Event} → called over d s .answer ≡ answer.Event x
+    → 256 * (length s - called over d s .taken) + weight (called over d s .state) < 256 * length s + weight d
+unfolding called decodeEof
+call-nearer true d s byte q = eof-nearer benchEntries benchParts d s byte (decode benchEntries benchParts d s .answer) refl q
+call-nearer false d s byte q = event-nearer benchEntries benchParts d s byte q
