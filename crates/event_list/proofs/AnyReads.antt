@@ -1,12 +1,13 @@
 -- What the program prints is the list of its input, wherever the reads cut it: `any-reads`. The invariant of a run: what is unread and the pieces that are left are
 -- together what is still to come; before the end of input the decoder is not finished and within 2^62; after it nothing is left to read, and the buffer has room.
 -- Assumes nothing.
-use Prim.Native.Nat.{ℕ, zero, suc, _+_, _-_, _^_, _≤_, _<_}
+use Prim.Native.Nat.{ℕ, zero, suc, _+_, _-_, _*_, _^_, _≤_, _<_}
 use mathlib.Core.Path.{_≡_, refl, sym, ap, _∙_}
 use mathlib.Core.Bool.{Bool, true, false, cond, false≢true}
 use mathlib.Core.List.{List, [], _∷_, _++_, append-nil}
 use native.Mathlib.Omega.{arith}
 use native.Mathlib.Decide.{decLe}
+use native.Mathlib.Nat.{not-suc-le-zero}
 use borrow.Author.Tests.{lt-ltb, le-ltb}
 use lib.Dec.{ltb}
 use lib.ListN.{length, take, drop, replicate, length-append, length-drop, length-replicate}
@@ -30,7 +31,8 @@ use Rattle.event_list.specs.declared.types.Listing.{Listing}
 use Rattle.event_list.specs.declared.types.Next.{Next}
 use Rattle.event_list.specs.declared.types.Next.the-variants.{Line, Last, Read}
 use Rattle.event_list.proofs.Cuts.{octets-front, asked-takes-none}
-use Rattle.event_list.proofs.Filling.{length-unread, unread-fits, unread-after, unread-front, size-is, rest-is, pieces-some, unread-is, decoder-is, ended-only}
+use Rattle.event_list.proofs.Ending.{weight, call-nearer, more-light}
+use Rattle.event_list.proofs.Filling.{length-unread, unread-fits, unread-after, unread-front, size-is, rest-is, pieces-some, unread-is, decoder-is, ended-only, read-nearer}
 use Rattle.event_list.proofs.Finishing.{finished-kept}
 use Rattle.event_list.proofs.Taking.{call-takes, over-asks-no-more, reads-on}
 use Rattle.event_list.proofs.Views.{seen-all, view-answers, full-answers, asked-answers}
@@ -201,6 +203,7 @@ record AfterRead (K : Listing × List ℕ) (ps : List (List ℕ)) (s b : List �
   inv : Inv (filled K ps .at) (filled K ps .buffer) (filled K ps .pieces) s
   size : length (filled K ps .buffer) ≡ length b
   same : filled K ps .at .decoder ≡ d
+  nearer : length (joined (filled K ps .pieces)) + cond (filled K ps .at .ended) 0 1 < length (joined ps) + 1
 
 kept-form : (l : Listing) (b : List ℕ) → kept l b ≡ (listing (l .decoder) 0 (length (unread l b)) (l .ended), unread l b ++ drop (length (unread l b)) b)
 unfolding kept
@@ -225,6 +228,7 @@ module _ (d : TagDecoder) (u w : List ℕ) (e : Bool) (ps : List (List ℕ)) (s 
             };
         size = size-is d u w e ps space some ∙ size;
         same = decoder-is d u w e ps space some;
+        nearer = read-nearer d u w e ps space some on;
       }
 
 module _ (l : Listing) (b : List ℕ) (ps : List (List ℕ)) (s : List ℕ) (inv : Inv l b ps s) (q : turn l b .next ≡ Read) where
@@ -306,22 +310,23 @@ prints-lists (the-last l b ps q) s inv =
     rw (answers l b ps s inv full) (ends (answered l b) s (last-no-event (answered l b .answer) (unreadCount l b) (length b) q))
 prints-lists (a-read l b ps q p) s inv = read-case l b ps s inv q (λ i. prints-lists p s i)
 
--- from the start: a run with a buffer of so many zero bytes, on an input of at most 2^62 bytes in any pieces, prints the list of the input
-pub any-reads : (size : ℕ) (ps : List (List ℕ)) {text : List ℕ} → NoneEmpty ps → Octets (joined ps) → length (joined ps) ≤ 2 ^ 62
-    → Prints started (replicate size 0) ps text → ListOf size (joined ps) text
-any-reads size ps some byte few run =
-    let inv : Inv started (replicate size 0) ps (joined ps) =
+at-start : (size : ℕ) (ps : List (List ℕ)) → NoneEmpty ps → Octets (joined ps) → length (joined ps) ≤ 2 ^ 62 → Inv started (replicate size 0) ps (joined ps)
+at-start size ps some byte few =
     record {
       whole = ap (λ (x : List ℕ). x ++ joined ps) (sym nothing-yet);
       some = some;
       byte = byte;
       still = λ f. record { open-still = refl; near = omega arith };
       over = λ t. absurd (false≢true t);
-    } in
-    rw (length-replicate {A = ℕ} size 0) at (prints-lists run (joined ps) inv)
+    }
   where
     nothing-yet : unread started (replicate size 0) ≡ []
     nothing-yet = unread-front fresh [] (replicate size 0) 0 false refl
+
+-- from the start: a run with a buffer of so many zero bytes, on an input of at most 2^62 bytes in any pieces, prints the list of the input
+pub any-reads : (size : ℕ) (ps : List (List ℕ)) {text : List ℕ} → NoneEmpty ps → Octets (joined ps) → length (joined ps) ≤ 2 ^ 62
+    → Prints started (replicate size 0) ps text → ListOf size (joined ps) text
+any-reads size ps some byte few run = rw (length-replicate {A = ℕ} size 0) at (prints-lists run (joined ps) (at-start size ps some byte few))
 
 -- an input has one list, so however it is cut a run that comes to its end prints the same
 pub one-list : (size : ℕ) {r : Decoded} {s text other : List ℕ} → Lists size r s text → Lists size r s other → text ≡ other
@@ -335,3 +340,75 @@ pub same-however-cut : (size : ℕ) (ps qs : List (List ℕ)) {text other : List
     → length (joined ps) ≤ 2 ^ 62 → Prints started (replicate size 0) ps text → Prints started (replicate size 0) qs other → text ≡ other
 same-however-cut size ps qs e somep someq byte few run run' =
     one-list size (rw e at (any-reads size ps somep byte few run)) (any-reads size qs someq (rw e at byte) (rw e at few) run')
+
+-- ---- a run comes to its end
+
+-- how far it is: what is still to come, what the record may make of it, what is to be read
+abbrev far : Listing → List ℕ → List (List ℕ) → ℕ
+far l b ps = 256 * (length (unread l b) + length (joined ps)) + weight (l .decoder) + (length (joined ps) + cond (l .ended) 0 1)
+
+line-sum : (u t j w w' r u' : ℕ) → u' ≡ u - t → 256 * (u - t) + w' < 256 * u + w → 256 * (u' + j) + w' + r < 256 * (u + j) + w + r
+line-sum u t j w w' r u' e h = omega arith
+
+read-sum : (t t' w w' r r' : ℕ) → t' ≡ t → w' ≤ w → r' < r → 256 * t' + w' + r' < 256 * t + w + r
+read-sum t t' w w' r r' e h k = omega arith
+
+less-by : (a b c : ℕ) → a < b + 1 → c ≡ 1 → a < b + c
+less-by a b c h e = omega arith
+
+one-more : (x : Bool) → x ≡ false → _≡_ {A = ℕ} (cond x 0 1) 1
+one-more x e = rw e
+
+pub record Printed (l : Listing) (b : List ℕ) (ps : List (List ℕ)) : Type 0 where
+  pub text : List ℕ
+  pub prints : Prints l b ps text
+
+module _ (l : Listing) (b : List ℕ) (ps : List (List ℕ)) (s : List ℕ) (inv : Inv l b ps s) where
+  line-nearer : turn l b .next ≡ Line → far (turn l b .listing) b ps < far l b ps
+  unfolding turn
+  line-nearer q =
+      let r = answered l b in
+      let ev = line-event (r .answer) (unreadCount l b) (length b) q in
+      line-sum (length (unread l b)) (r .taken) (length (joined ps)) (weight (l .decoder)) (weight (r .state)) (length (joined ps) + cond (l .ended) 0 1)
+      (length (unread (turn l b .listing) b))
+      (ap length (unread-then l b ps s inv) ∙ length-drop (r .taken) (unread l b))
+      (call-nearer (l .ended) (l .decoder) (unread l b) (octets-unread l b ps s inv) (ev .is))
+
+  read-on-nearer : (q : turn l b .next ≡ Read)
+      → far (filled (kept (turn l b .listing) b) ps .at) (filled (kept (turn l b .listing) b) ps .buffer) (filled (kept (turn l b .listing) b) ps .pieces) < far l b ps
+  read-on-nearer q =
+      let a = read-inv l b ps s inv q in
+      let F = filled (kept (turn l b .listing) b) ps in
+      let total = ap length (sym (a .inv .whole) ∙ inv .whole) in
+      let light : weight (F .at .decoder) ≤ weight (l .decoder) =
+      rw (a .same, same-call l b ps s inv q) (more-light benchEntries benchParts (l .decoder) (unread l b) (octets-unread l b ps s inv) (asks-decode l b ps s inv q)) in
+      let less : length (joined (F .pieces)) + cond (F .at .ended) 0 1 < length (joined ps) + cond (l .ended) 0 1 = less-by _ (length (joined ps)) _ (a .nearer) (one-more (l .ended) (not-over l b ps s inv q)) in
+      read-sum (length (unread l b) + length (joined ps)) (length (unread (F .at) (F .buffer)) + length (joined (F .pieces))) (weight (l .decoder)) (weight (F .at .decoder))
+      (length (joined ps) + cond (l .ended) 0 1) (length (joined (F .pieces)) + cond (F .at .ended) 0 1)
+      (sym (length-append (unread (F .at) (F .buffer)) (joined (F .pieces))) ∙ total ∙ length-append (unread l b) (joined ps))
+      light
+      less
+
+within-steps : (n : ℕ) (l : Listing) (b : List ℕ) (ps : List (List ℕ)) (s : List ℕ) → Inv l b ps s → far l b ps < n → Printed l b ps
+within-steps zero l b ps s inv h = absurd (not-suc-le-zero h)
+within-steps (suc n) l b ps s inv h =
+    by (turn l b .next) refl
+    (λ q. within-steps n (turn l b .listing) b ps (drop (answered l b .taken) s) (inv-line l b ps s inv) (step (line-nearer l b ps s inv q) h))
+    (λ q.
+    let F = filled (kept (turn l b .listing) b) ps in
+    within-steps n (F .at) (F .buffer) (F .pieces) s (read-inv l b ps s inv q .inv) (step (read-on-nearer l b ps s inv q) h))
+  where
+    step : {x y : ℕ} → x < y → y < suc n → x < n
+    step p q = omega arith
+
+    by : (x : Next) → turn l b .next ≡ x → (turn l b .next ≡ Line → Printed (turn l b .listing) b ps)
+        → (turn l b .next ≡ Read → Printed (filled (kept (turn l b .listing) b) ps .at) (filled (kept (turn l b .listing) b) ps .buffer) (filled (kept (turn l b .listing) b) ps .pieces))
+        → Printed l b ps
+    by Line q on again = record { text = line (turn l b .answer) (turn l b .listing .decoder .position) ++ on q .text; prints = a-line l b ps q (on q .prints) }
+    by Last q on again = record { text = line (turn l b .answer) (turn l b .listing .decoder .position); prints = the-last l b ps q }
+    by Read q on again = record { text = again q .text; prints = a-read l b ps q (again q .prints) }
+
+-- every input of at most 2^62 bytes, in any pieces, is listed to its end
+pub comes-to-an-end : (size : ℕ) (ps : List (List ℕ)) → NoneEmpty ps → Octets (joined ps) → length (joined ps) ≤ 2 ^ 62 → Printed started (replicate size 0) ps
+comes-to-an-end size ps some byte few =
+    within-steps (suc (far started (replicate size 0) ps)) started (replicate size 0) ps (joined ps) (at-start size ps some byte few) (omega arith)

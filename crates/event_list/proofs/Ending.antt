@@ -123,16 +123,20 @@ decide-steps es ps d s byte = by (step1 es ps d (length s))
   where
     t : List Entry
     t = tableOf es ps
+
     A : Decision → Type 0
     A a = Steps d (a .action)
+
     last : d .«waiting_count» ≡ 0 → A (steps4-11 ps t d s)
     last quiet =
         pick A (eqb (length s) 0) (plain act.NeedMore) (step5 ps t d s (readHeader t s)) (λ f. tt)
         (λ f. step5-steps d quiet ps t s (readHeader t s) (header-some t s byte))
+
     then : d .«waiting_count» ≡ 0 → A (cond (d .finished) (plain act.Finish) (cond (ltb (step3 d) (d .«open_count»)) (plain (closing t d (step3 d))) (steps4-11 ps t d s)))
     then quiet =
         pick A (d .finished) (plain act.Finish) (cond (ltb (step3 d) (d .«open_count»)) (plain (closing t d (step3 d))) (steps4-11 ps t d s)) (λ f. tt)
         (λ f. pick A (ltb (step3 d) (d .«open_count»)) (plain (closing t d (step3 d))) (steps4-11 ps t d s) (λ g. closing-steps d quiet t d (step3 d)) (λ g. last quiet))
+
     by : (c : Check) → A (orRefuse c (steps2-11 ps t d s))
     by Pass =
         pick A (ltb 0 (d .«waiting_count»)) (plain act.HandOut)

@@ -1,7 +1,7 @@
 -- What is unread after a turn and after a read, as lists. Assumes nothing.
 use Prim.Native.Nat.{ℕ, zero, suc, _+_, _-_, _≤_, _<_, min}
 use mathlib.Core.Path.{_≡_, refl, sym, ap, _∙_}
-use mathlib.Core.Bool.{Bool, true, false, false≢true}
+use mathlib.Core.Bool.{Bool, true, false, cond, false≢true}
 use mathlib.Core.List.{List, [], _∷_, _++_, append-nil, append-assoc}
 use native.Mathlib.Omega.{arith}
 use native.Mathlib.Nat.{min-le-right}
@@ -173,3 +173,18 @@ module _ (d : TagDecoder) (u w : List ℕ) (e : Bool) (ps : List (List ℕ)) (sp
           let z : length v ≡ 0 = omega arith in
           let none = none-left n ps (omega (arith, room)) some z in
           (none, (rw (no-elements v z) at (given-joined n ps)) ∙ none)
+
+  -- a read leaves less to read, or marks the end
+  pub read-nearer : e ≡ false → length (joined (stage .pieces)) + cond (stage .at .ended) 0 1 < length (joined ps) + 1
+  unfolding filled
+  read-nearer still = go (decLe 1 (length v))
+    where
+      n : ℕ
+      n = length (u ++ w) - length u
+
+      sum : length v + length (joined (left n ps)) ≡ length (joined ps)
+      sum = sym (length-append v (joined (left n ps))) ∙ ap length (given-joined n ps)
+
+      go : Dec (1 ≤ length v) → length (joined (left n ps)) + cond (stage .at .ended) 0 1 < length (joined ps) + 1
+      go (yes h) = rw (ap (λ (x : Listing). x .ended) (at-some (λ z. omega arith)), still) (omega (arith, sum))
+      go (no f) = rw (ap (λ (x : Listing). x .ended) (at-none (omega arith))) (omega (arith, sum))
