@@ -8,16 +8,14 @@ use native.Mathlib.Omega.{arith}
 use lib.Count.{leadingZeros}
 use Rattle.tools.specs.Bytes.{beFrom}
 use Rattle.tools.specs.Vint.{readVint}
-use Rattle.tools.specs.Integer.{arrToU64}
 use Rattle.table.specs.Lists.{every, any}
 use Rattle.table.specs.Shape.{goodPart, goodParts, goodEntry, goodEntries, goodShape}
 use Rattle.table.specs.Check.{onlyIds}
 use Rattle.table.specs.Table.{threes, fours, boundOf, partOf, sameBound, samePart, samePath, kindOf, isMaster, isTyped, clipped, entryOf, tableOf, entryFor}
 use Rattle.spec_util.specs.Ended.{isIdOf, hasId, isParent, isSibling, isTypedRoot, isEndedBy}
-use Rattle.spec_util.specs.Walk.{overMax, underMin, isIdAt, walkGlobal, walkAt, walkPart, unknownAndEnded, walkMaster, minMet, walkEnd, goOn, walkFrom, validateTagPath}
+use Rattle.spec_util.specs.Walk.{walkAt, walkPart, unknownAndEnded, walkMaster, walkEnd, goOn, walkFrom, validateTagPath}
 use Rattle.tag_parse.specs.Header.{readTagId, sizeOf, tooLong, sizedBy, sized, afterId, readHeader}
-use Rattle.tag_parse.specs.Payload.{readData}
-use Rattle.decoder_state.specs.State.{fresh, endFor, withOpen, withWaiting, withNotes, settledTo, opened, closedTo, handedOut}
+use Rattle.decoder_state.specs.State.{fresh, withOpen, withNotes, settledTo, opened}
 use Rattle.decoder_state.specs.OneCall.{goodOpen, goodState, refused12, refused13, isDone, firstIndex, closing, noted, step8, reaches, step9, validHeader, endedTops, element, elementOf, step11, steps10-11, steps8-11, steps6-11, step5, steps4-11, steps2-11, decide, move, apply, decode}
 use Rattle.decoder_state.specs.declared.types.Answer.the-variants.{NeedMore, Event}
 use Rattle.decoder_state.specs.declared.types.Event.the-variants.{Start}
@@ -34,11 +32,11 @@ abbrev session : List ℕ
 session = 0x4E ∷ 0x01 ∷ 0xFF ∷ []
 
 needs-more : (decode entries parts fresh amount .answer ≡ NeedMore) × (decode entries parts fresh amount .state .settled ≡ true)
-unfolding leadingZeros beFrom readVint arrToU64 every any goodPart goodParts goodEntry goodEntries goodShape onlyIds threes fours boundOf partOf sameBound samePart samePath kindOf isMaster clipped entryOf tableOf entryFor isIdOf hasId isTyped isParent isSibling isTypedRoot isEndedBy overMax underMin isIdAt walkGlobal walkAt walkPart unknownAndEnded walkMaster minMet walkEnd goOn walkFrom validateTagPath readTagId sizeOf tooLong sizedBy sized afterId readHeader readData endFor withOpen withWaiting withNotes settledTo opened closedTo handedOut goodOpen goodState refused12 refused13 isDone firstIndex closing noted step8 reaches step9 validHeader endedTops element elementOf step11 steps10-11 steps8-11 steps6-11 step5 steps4-11 steps2-11 decide move apply
+unfolding leadingZeros beFrom readVint every any goodPart goodParts goodEntry goodEntries goodShape onlyIds threes fours boundOf partOf sameBound samePart samePath kindOf isMaster clipped entryOf tableOf entryFor isIdOf hasId isTyped isParent isSibling isTypedRoot isEndedBy walkAt walkPart unknownAndEnded walkMaster walkEnd goOn walkFrom validateTagPath readTagId sizeOf tooLong sizedBy sized afterId readHeader withOpen withNotes settledTo opened goodOpen goodState refused12 refused13 isDone firstIndex closing noted step8 reaches step9 validHeader endedTops element elementOf step11 steps10-11 steps8-11 steps6-11 step5 steps4-11 steps2-11 decide move apply
 needs-more = (refl, refl)
 
 starts : (decode entries parts fresh session .answer ≡ Event (Start 0x4E01 0)) × (decode entries parts fresh session .state .«open_count» ≡ 1)
-unfolding leadingZeros beFrom readVint arrToU64 every any goodPart goodParts goodEntry goodEntries goodShape onlyIds threes fours boundOf partOf sameBound samePart samePath kindOf isMaster clipped entryOf tableOf entryFor isIdOf hasId isTyped isParent isSibling isTypedRoot isEndedBy overMax underMin isIdAt walkGlobal walkAt walkPart unknownAndEnded walkMaster minMet walkEnd goOn walkFrom validateTagPath readTagId sizeOf tooLong sizedBy sized afterId readHeader readData endFor withOpen withWaiting withNotes settledTo opened closedTo handedOut goodOpen goodState refused12 refused13 isDone firstIndex closing noted step8 reaches step9 validHeader endedTops element elementOf step11 steps10-11 steps8-11 steps6-11 step5 steps4-11 steps2-11 decide move apply
+unfolding leadingZeros beFrom readVint every any goodPart goodParts goodEntry goodEntries goodShape onlyIds threes fours boundOf partOf sameBound samePart samePath kindOf isMaster clipped entryOf tableOf entryFor isIdOf hasId isTyped isParent isSibling isTypedRoot isEndedBy walkAt walkPart unknownAndEnded walkMaster walkEnd goOn walkFrom validateTagPath readTagId sizeOf tooLong sizedBy sized afterId readHeader withOpen withNotes settledTo opened goodOpen goodState refused12 refused13 isDone firstIndex closing noted step8 reaches step9 validHeader endedTops element elementOf step11 steps10-11 steps8-11 steps6-11 step5 steps4-11 steps2-11 decide move apply
 starts = (refl, refl)
 
 pub note-kept : {r : Said} → Leaves r fresh (apart (decode entries parts fresh amount)) → ⊥
