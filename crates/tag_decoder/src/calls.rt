@@ -9,26 +9,30 @@ use crate::moving::close;
 use crate::moving::moved;
 use crate::moving::refused;
 use crate::moving::still;
-use crate::moving::with_note;
 use decoder_decide::decide;
 use decoder_element::cut::cut_bytes;
 use decoder_element::cut::cut_master;
+use decoder_state::moves::settled_to;
 use decoder_state::moves::with_finished;
 use decoder_state::types::Answer;
 use decoder_state::types::DecodeError;
 use decoder_state::types::Decoded;
+use decoder_state::types::Note;
 use decoder_state::types::TagDecoder;
 use decoder_tests::closing::all_masters;
 use decoder_tests::places::first_cut;
 
-// One call: the next event, or need more, finished, or a refusal.
-pub fn decode(entries: &[u64], parts: &[u64], d: TagDecoder, input: &[u8]) -> Decoded
+// One call: the next event, or need more, finished, or a refusal. The note is made in place, since a record that goes through a call is copied.
+pub fn decode(entries: &[u64], parts: &[u64], mut d: TagDecoder, input: &[u8]) -> Decoded
     ensures { λ r. ⌜ r ≡ decode (now (entries .entry)) (now (parts .entry)) d (now (input .entry)) ⌝ }
 {
     let decision = decide(entries, parts, d, input);
     let note = decision.note;
     let action = decision.action;
-    moved(with_note(parts, d, note), input.len(), action)
+    if let Note::Settle(path) = note {
+        d = settled_to(d, parts, path);
+    }
+    moved(d, input.len(), action)
 }
 
 // All close, and the first End is handed out.
