@@ -23,23 +23,23 @@ first-fed-requires c κs = search needs
 loop-holds : tie.Need-loop-holds Inv-loop μ-loop
 loop-holds c = search needs
 
-sub-call : tie.Need-sub-call Inv-loop μ-loop
-sub-call c = search needs
+sub-decode : tie.Need-sub-decode Inv-loop μ-loop
+sub-decode c = search needs
 
-part-call-start : tie.Need-part-call-start Inv-loop μ-loop
-part-call-start c = search needs
+part-decode-start : tie.Need-part-decode-start Inv-loop μ-loop
+part-decode-start c = search needs
 
-part-call-end : tie.Need-part-call-end Inv-loop μ-loop
-part-call-end c = search needs
+part-decode-end : tie.Need-part-decode-end Inv-loop μ-loop
+part-decode-end c = search needs
 
-call-requires : tie.Need-call-requires Inv-loop μ-loop
-call-requires c κs = search needs
+decode-requires : tie.Need-decode-requires Inv-loop μ-loop
+decode-requires c κs = search needs
 
 enum-known-answer : tie.Need-enum-known-answer Inv-loop μ-loop
 enum-known-answer c = search needs
 
-add-at : tie.Need-add-at Inv-loop μ-loop
-add-at c = search needs
+past-requires : tie.Need-past-requires Inv-loop μ-loop
+past-requires c κs = search needs
 
 add-events : tie.Need-add-events Inv-loop μ-loop
 add-events c = search needs
@@ -104,12 +104,12 @@ run-fed-spec =
     new-requires
     first-fed-requires
     loop-holds
-    sub-call
-    part-call-start
-    part-call-end
-    call-requires
+    sub-decode
+    part-decode-start
+    part-decode-end
+    decode-requires
     enum-known-answer
-    add-at
+    past-requires
     add-events
     mix-event-requires
     loop-less
