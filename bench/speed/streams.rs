@@ -78,9 +78,13 @@ impl Input {
     fn times(&self, patience: Patience) -> Times {
         measure(
             patience,
-            || drop(black_box(self.ours())),
+            || {
+                black_box(self.ours());
+            },
             || self.buffer(),
-            |buffer| drop(black_box(self.rust(buffer))),
+            |buffer| {
+                black_box(self.rust(buffer));
+            },
         )
     }
 }

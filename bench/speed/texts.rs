@@ -33,9 +33,13 @@ fn row(patience: Patience, name: &str, text: &[u8]) {
     assert!(ours::is_utf8(text) && std::str::from_utf8(text).is_ok());
     let times = measure(
         patience,
-        || drop(black_box(ours::is_utf8(black_box(text)))),
+        || {
+            black_box(ours::is_utf8(black_box(text)));
+        },
         || (),
-        |()| drop(black_box(std::str::from_utf8(black_box(text)).is_ok())),
+        |()| {
+            black_box(std::str::from_utf8(black_box(text)).is_ok());
+        },
     );
     let rate = |seconds: f64| text.len() as f64 / seconds / 1e9;
     println!(
