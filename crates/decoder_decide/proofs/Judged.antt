@@ -4,7 +4,7 @@ use mathlib.Core.Path.{_≡_, refl, sym, ap, _∙_, subst}
 use mathlib.Core.Bool.{Bool, true, false, cond, _&&_}
 use mathlib.Core.List.{List}
 use native.Mathlib.Omega.{arith}
-use borrow.Author.Tests.{leb-true}
+use borrow.Author.Tests.{leb-true, lt-ltb, le-ltb, eq-eqb, ne-eqb}
 use lib.Dec.{leb}
 use lib.ListN.{length}
 use Rattle.tools.specs.Bytes.{Octets}
@@ -16,16 +16,19 @@ use Rattle.table.proofs.Shaped.{at-most-16}
 use Rattle.tag_parse.specs.Header.{readHeader}
 use Rattle.tag_parse.specs.declared.types.EBMLSize.{EBMLSize}
 use Rattle.tag_parse.specs.declared.types.EBMLSize.the-variants.{Known, Unknown}
+use Rattle.tag_parse.specs.declared.types.ReadHeader.{ReadHeader}
 use Rattle.tag_parse.specs.declared.types.ReadHeader.the-variants as header
 use Rattle.tag_parse.specs.declared.types.TagHeader.{TagHeader}
 use Rattle.tag_parse.proofs.Headers.{header-sound, header-short, known-small, header-spec}
 use Rattle.decoder_state.specs.State.{withOpen, withNotes, settledTo}
-use Rattle.decoder_state.specs.OneCall.{goodState, refused12, refused13, andThen, step1, step6, settles, step7, noted, plain, steps8-11, steps6-11}
+use Rattle.decoder_state.specs.OneCall.{goodState, refused12, refused13, andThen, step1, step3, step5, step6, settles, step7, noted, validHeader, closing, step10, step11, plain, steps10-11, steps8-11, steps6-11, steps4-11, steps2-11, decide}
 use Rattle.decoder_state.specs.declared.types.Check.{Check}
 use Rattle.decoder_state.specs.declared.types.Check.the-variants.{Pass, Fail}
+use Rattle.decoder_state.specs.declared.types.DecodeError.{DecodeError}
 use Rattle.decoder_state.specs.declared.types.DecodeError.the-variants.{TableShape, BadState, TooFar, InvalidTagId}
 use Rattle.decoder_state.specs.declared.types.Action.{Action}
-use Rattle.decoder_state.specs.declared.types.Action.the-variants.{Refuse}
+use Rattle.decoder_state.specs.declared.types.Action.the-variants.{Refuse, NeedMore, Finish, HandOut}
+use Rattle.decoder_state.specs.declared.types.Decision.{Decision}
 use Rattle.decoder_state.specs.declared.types.Note.{Note}
 use Rattle.decoder_state.specs.declared.types.Note.the-variants.{NoNote, Settle}
 use Rattle.decoder_state.specs.declared.types.TagDecoder.{TagDecoder}
@@ -112,3 +115,62 @@ pub steps6-yes : (ps : List ℕ) (t : List Entry) (d : TagDecoder) (h : TagHeade
 unfolding steps6-11
 steps6-yes ps t d h s n e a ok p q r =
     rw (r, q, p) (sym (cond-yes (step6 d h) (record { note = step7 ps d h; action = steps8-11 t (noted ps d (step7 ps d h)) h s }) (plain (Refuse InvalidTagId)) ok))
+
+-- so it has at most 16 parts, and the record with the note is good
+pub note-short : (es ps : List ℕ) (d : TagDecoder) (h : TagHeader) (p : Path) → GoodHeader es ps h → step7 ps d h ≡ Settle p → length (within (partsOf ps) p) ≤ 32
+note-short es ps d h p g e = rw (note-path ps d h p e) (omega (arith, g .few))
+
+pub noted-record : (es ps : List ℕ) (d e : TagDecoder) (h : TagHeader) → GoodRecord d → GoodHeader es ps h → (n : Note) → n ≡ step7 ps d h → e ≡ noted ps d n → GoodRecord e
+unfolding noted
+noted-record es ps d e h g good NoNote p q = subst GoodRecord (sym q) g
+noted-record es ps d e h g good (Settle path) p q = subst GoodRecord (sym q) (settled-record d ps path g (note-short es ps d h path good (sym p)))
+
+-- ---- 8 to 11, where e has the note
+
+module _ (t : List Entry) (e : TagDecoder) (h : TagHeader) (s : List ℕ) where
+  pub steps8-fail : {x : DecodeError} → validHeader t e h ≡ Fail x → Refuse x ≡ steps8-11 t e h s
+  unfolding steps8-11
+  steps8-fail v = rw v
+
+  pub steps8-close : (k : ℕ) {a : Action} → validHeader t e h ≡ Pass → k ≡ step10 t e (h .id) → k < e .«open_count» → a ≡ closing t e k → a ≡ steps8-11 t e h s
+  unfolding steps8-11 steps10-11
+  steps8-close k v q l r = rw (v, ← q, lt-ltb _ _ l) r
+
+  pub steps8-element : (k : ℕ) {a : Action} → validHeader t e h ≡ Pass → k ≡ step10 t e (h .id) → e .«open_count» ≤ k → a ≡ step11 (e .«open_count») (e .position) h s → a ≡ steps8-11 t e h s
+  unfolding steps8-11 steps10-11
+  steps8-element k v q l r = rw (v, ← q, le-ltb _ _ l) r
+
+-- ---- the whole decision, by where it ends
+
+pub decide-refused : (es ps : List ℕ) (d : TagDecoder) (s : List ℕ) {e : DecodeError} → step1 es ps d (length s) ≡ Fail e → plain (Refuse e) ≡ decide es ps d s
+unfolding decide
+decide-refused es ps d s f = rw f
+
+module _ (es ps : List ℕ) (d : TagDecoder) (s : List ℕ) (pass : step1 es ps d (length s) ≡ Pass) where
+  pub decide-waiting : 0 < d .«waiting_count» → plain HandOut ≡ decide es ps d s
+  unfolding decide steps2-11
+  decide-waiting w = rw (pass, lt-ltb _ _ w)
+
+  module _ (w : d .«waiting_count» ≤ 0) where
+    pub decide-finished : d .finished ≡ true → plain Finish ≡ decide es ps d s
+    unfolding decide steps2-11
+    decide-finished f = rw pass (sym (cond-no _ _ _ (le-ltb _ _ w) ∙ cond-yes _ _ _ f))
+
+    module _ (f : d .finished ≡ false) where
+      pub decide-done : (k : ℕ) {a : Action} → k ≡ step3 d → k < d .«open_count» → a ≡ closing (tableOf es ps) d k → plain a ≡ decide es ps d s
+      unfolding decide steps2-11
+      decide-done k i h e =
+          rw (pass, e) (sym (cond-no _ _ _ (le-ltb _ _ w) ∙ cond-no _ _ _ f ∙ cond-yes _ _ _ (lt-ltb _ _ (subst (λ (x : ℕ). x < d .«open_count») i h)) ∙ rw i))
+
+      module _ (k : ℕ) (i : k ≡ step3 d) (h : d .«open_count» ≤ k) where
+        on : steps4-11 ps (tableOf es ps) d s ≡ decide es ps d s
+        unfolding decide steps2-11
+        on = rw pass (sym (cond-no _ _ _ (le-ltb _ _ w) ∙ cond-no _ _ _ f ∙ cond-no _ _ _ (le-ltb _ _ (subst (λ (x : ℕ). d .«open_count» ≤ x) i h))))
+
+        pub decide-empty : length s ≡ 0 → plain NeedMore ≡ decide es ps d s
+        unfolding steps4-11
+        decide-empty z = sym (cond-yes _ _ _ (eq-eqb _ _ z)) ∙ on
+
+        pub decide-header : (length s ≡ 0 → ⊥) → (r : ReadHeader) {a : Decision} → r ≡ readHeader (tableOf es ps) s → a ≡ step5 ps (tableOf es ps) d s r → a ≡ decide es ps d s
+        unfolding steps4-11
+        decide-header z r q e = e ∙ rw q (sym (cond-no _ _ _ (ne-eqb _ _ z)) ∙ on)

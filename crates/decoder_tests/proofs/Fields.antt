@@ -12,7 +12,7 @@ use Rattle.tag_parse.specs.declared.types.EBMLSize.{EBMLSize}
 use Rattle.tag_parse.specs.declared.types.EBMLSize.the-variants.{Known, Unknown}
 use Rattle.tag_parse.specs.declared.types.TagHeader.{TagHeader}
 use Rattle.decoder_state.specs.State.{opens}
-use Rattle.decoder_state.specs.OneCall.{goodState, refused12, refused13, step8, reaches, step9}
+use Rattle.decoder_state.specs.OneCall.{goodState, refused12, refused13, andThen, step1, step8, reaches, step9}
 use Rattle.decoder_state.specs.declared.types.Check.{Check}
 use Rattle.decoder_state.specs.declared.types.Check.the-variants.{Pass, Fail}
 use Rattle.decoder_state.specs.declared.types.DecodeError.the-variants.{OversizedChildElement}
@@ -26,9 +26,10 @@ pub refused12-for : (es ps : List ℕ) (d : TagDecoder) (n : ℕ) {good : Bool} 
 unfolding refused12 refusedFor
 refused12-for es ps d n g e = e ∙ rw g
 
-pub refused13-for : (d : TagDecoder) (n : ℕ) → afterFinish (d .finished) n ≡ refused13 d n
-unfolding refused13 afterFinish
-refused13-for d n = refl
+pub step1-for : (es ps : List ℕ) (d : TagDecoder) (n : ℕ) {good : Bool} {r : Check} → good ≡ goodState d
+    → r ≡ andThen (refusedFor es ps good (d .position) n) (afterFinish (d .finished) n) → r ≡ step1 es ps d n
+unfolding refused12 refusedFor refused13 afterFinish
+step1-for es ps d n g e = e ∙ rw g
 
 -- ---- step 8
 

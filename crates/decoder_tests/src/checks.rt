@@ -3,7 +3,7 @@
 ghost use mathlib.Core.Path.{_≡_};
 ghost use Prim.Native.Nat.{_+_, _^_, _≤_};
 ghost use lib.Dec.{leb};
-ghost use Rattle.decoder_state.specs.OneCall.{goodOpen, goodState, refused12, refused13, step1};
+ghost use Rattle.decoder_state.specs.OneCall.{goodOpen, goodState, refused12, andThen};
 ghost use Rattle.decoder_tests.specs.Parts.{refusedFor, afterFinish};
 use decoder_state::types::Check;
 use decoder_state::types::DecodeError;
@@ -95,17 +95,19 @@ pub fn after_finish(finished: bool, n: usize) -> Check
     Check::Pass
 }
 
-pub fn refused13(d: TagDecoder, n: usize) -> Check
-    ensures { λ r. ⌜ r ≡ refused13 d n ⌝ }
+// Step 1, where the state was found good or not, and of the record's fields that it reads.
+pub fn step1_for(
+    entries: &[u64],
+    parts: &[u64],
+    good: bool,
+    position: u64,
+    finished: bool,
+    n: usize,
+) -> Check
+    ensures { λ r. ⌜ r ≡ andThen (refusedFor (now (entries .entry)) (now (parts .entry)) good position n) (afterFinish finished n) ⌝ }
 {
-    after_finish(d.finished, n)
-}
-
-pub fn step1(entries: &[u64], parts: &[u64], d: TagDecoder, n: usize) -> Check
-    ensures { λ r. ⌜ r ≡ step1 (now (entries .entry)) (now (parts .entry)) d n ⌝ }
-{
-    match refused_for(entries, parts, good_state(d), d.position, n) {
-        Check::Pass => after_finish(d.finished, n),
+    match refused_for(entries, parts, good, position, n) {
+        Check::Pass => after_finish(finished, n),
         Check::Fail(e) => Check::Fail(e),
     }
 }

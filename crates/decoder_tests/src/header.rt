@@ -5,8 +5,8 @@ ghost use mathlib.Core.Bool.{not, _&&_};
 ghost use Prim.Native.Nat.{_^_, _≤_, _<_};
 ghost use Rattle.table.specs.Check.{onlyIds};
 ghost use Rattle.table.specs.Table.{tableOf, partsOf, within, pathOf, isTyped};
-ghost use Rattle.decoder_state.specs.OneCall.{partsFor, settles, step7, step8, step9, validHeader};
-ghost use Rattle.decoder_tests.specs.Parts.{knownSize, isWalked, sizeChecked};
+ghost use Rattle.decoder_state.specs.OneCall.{partsFor, step7, step8, step9, validHeader};
+ghost use Rattle.decoder_tests.specs.Parts.{knownSize, noteFor, isWalked, sizeChecked};
 use crate::places::fits_all;
 use decoder_state::types::Check;
 use decoder_state::types::DecodeError;
@@ -36,20 +36,21 @@ pub fn settles_when(parts: &[u64], settled: bool, h: TagHeader) -> bool
     false
 }
 
-pub fn settles(parts: &[u64], d: TagDecoder, h: TagHeader) -> bool
-    ensures { λ r. ⌜ r ≡ settles (now (parts .entry)) d h ⌝ }
+// Step 7 with the record's one field that it reads.
+pub fn note_for(parts: &[u64], settled: bool, h: TagHeader) -> Note
+    ensures { λ r. ⌜ r ≡ noteFor (now (parts .entry)) settled h ⌝ }
 {
-    settles_when(parts, d.settled, h)
+    let path = h.path;
+    if settles_when(parts, settled, h) {
+        return Note::Settle(path);
+    }
+    Note::NoNote
 }
 
 pub fn step7(parts: &[u64], d: TagDecoder, h: TagHeader) -> Note
     ensures { λ r. ⌜ r ≡ step7 (now (parts .entry)) d h ⌝ }
 {
-    let path = h.path;
-    if settles_when(parts, d.settled, h) {
-        return Note::Settle(path);
-    }
-    Note::NoNote
+    note_for(parts, d.settled, h)
 }
 
 // Whether step 8 goes along the path.
