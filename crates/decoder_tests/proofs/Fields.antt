@@ -12,10 +12,10 @@ use Rattle.tag_parse.specs.declared.types.EBMLSize.{EBMLSize}
 use Rattle.tag_parse.specs.declared.types.EBMLSize.the-variants.{Known, Unknown}
 use Rattle.tag_parse.specs.declared.types.TagHeader.{TagHeader}
 use Rattle.decoder_state.specs.State.{opens}
-use Rattle.decoder_state.specs.OneCall.{goodState, refused12, refused13, andThen, step1, step8, reaches, step9}
+use Rattle.decoder_state.specs.OneCall.{goodState, refused12, refused13, andThen, step1, step8, reaches, step9, validHeader}
 use Rattle.decoder_state.specs.declared.types.Check.{Check}
 use Rattle.decoder_state.specs.declared.types.Check.the-variants.{Pass, Fail}
-use Rattle.decoder_state.specs.declared.types.DecodeError.the-variants.{OversizedChildElement}
+use Rattle.decoder_state.specs.declared.types.DecodeError.the-variants.{HierarchyError, OversizedChildElement}
 use Rattle.decoder_state.specs.declared.types.TagDecoder.{TagDecoder}
 use Rattle.decoder_tests.specs.Parts.{refusedFor, afterFinish, isWalked, sizeChecked}
 
@@ -71,3 +71,14 @@ module _ (d : TagDecoder) (len : ℕ) {size : EBMLSize} where
       pub sized-fits : every (reaches (d .position + (len + n))) (opens d) ≡ true → step9 d len size ≡ sizeChecked (d .«max_given») (d .«max_size») n
       unfolding step9 sizeChecked
       sized-fits f = rw (e, a, f)
+
+-- ---- steps 8 and 9
+
+module _ (t : List Entry) (d : TagDecoder) (h : TagHeader) where
+  pub invalid-8 : step8 t d h ≡ false → Fail HierarchyError ≡ validHeader t d h
+  unfolding validHeader
+  invalid-8 e = rw e
+
+  pub valid-9 : {r : Check} → step8 t d h ≡ true → r ≡ step9 d (h .len) (h .size) → r ≡ validHeader t d h
+  unfolding validHeader
+  valid-9 e f = rw (e, f)

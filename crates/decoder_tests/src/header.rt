@@ -5,7 +5,7 @@ ghost use mathlib.Core.Bool.{not, _&&_};
 ghost use Prim.Native.Nat.{_^_, _≤_, _<_};
 ghost use Rattle.table.specs.Check.{onlyIds};
 ghost use Rattle.table.specs.Table.{tableOf, partsOf, within, pathOf, isTyped};
-ghost use Rattle.decoder_state.specs.OneCall.{partsFor, step7, step8, step9, validHeader};
+ghost use Rattle.decoder_state.specs.OneCall.{partsFor, step7, step8, validHeader};
 ghost use Rattle.decoder_tests.specs.Parts.{knownSize, noteFor, isWalked, sizeChecked};
 use crate::places::fits_all;
 use decoder_state::types::Check;
@@ -115,29 +115,23 @@ fn size_checked(given: bool, greatest: u64, n: u64) -> Check
     Check::Pass
 }
 
-pub fn step9(d: TagDecoder, len: usize, size: EBMLSize) -> Check
-    requires { ⌜ (d .«open_count» ≤ 32) × (d .position ≤ 2 ^ 62) × (len ≤ 16) × (knownSize size < 2 ^ 56) ⌝ }
-    ensures { λ r. ⌜ r ≡ step9 d len size ⌝ }
-{
-    let EBMLSize::Known(n) = size else {
-        return Check::Pass;
-    };
-    if !d.allow_oversized {
-        if !fits_all(d, d.position + (len as u64 + n)) {
-            return Check::Fail(DecodeError::OversizedChildElement);
-        }
-    }
-    size_checked(d.max_given, d.max_size, n)
-}
-
+// 8, then 9, which is written out here, since a record that goes through a call is copied.
 pub fn valid_header(entries: &[u64], parts: &[u64], d: TagDecoder, h: TagHeader) -> Check
     requires { ⌜ (d .«open_count» ≤ 32) × (d .position ≤ 2 ^ 62) × (h .len ≤ 16) × (knownSize (h .size) < 2 ^ 56) ⌝ }
     requires { ⌜ within (partsOf (now parts)) (h .path) ≡ pathOf (tableOf (now entries) (now parts)) (h .id) ⌝ }
     ensures { λ r. ⌜ r ≡ validHeader (tableOf (now (entries .entry)) (now (parts .entry))) d h ⌝ }
 {
     let size = h.size;
-    if step8(entries, parts, d, h) {
-        return step9(d, h.len, size);
+    if !step8(entries, parts, d, h) {
+        return Check::Fail(DecodeError::HierarchyError);
     }
-    Check::Fail(DecodeError::HierarchyError)
+    let EBMLSize::Known(n) = size else {
+        return Check::Pass;
+    };
+    if !d.allow_oversized {
+        if !fits_all(d, d.position + (h.len as u64 + n)) {
+            return Check::Fail(DecodeError::OversizedChildElement);
+        }
+    }
+    size_checked(d.max_given, d.max_size, n)
 }
