@@ -45,7 +45,7 @@ plain-requires : tie.Need-plain-requires
 plain-requires c κs = search needs
 
 returns : tie.Need-returns
-returns c = 
+returns c =
     let f = c .before .before .before .before in
     c .plain .ensures ∙ decide-refused _ _ _ _ (sym (first f) ∙ c .before .before .e .given .1)
 
@@ -74,7 +74,7 @@ plain-requires-4 : tie.Need-plain-requires-4
 plain-requires-4 c κs = search needs
 
 returns-4 : tie.Need-returns-4
-returns-4 c = 
+returns-4 c =
     let k = c .before .before .before .before in
     c .plain4 .ensures
     ∙ decide-done _ _ _ _ (pass (k .before .before .before .before)) (k .before .before .if1 .left) (k .before .if2 .left) (k .first-done .result) (k .first-done .ensures) (c .before .before .if3 .taken) (c .before .closing .ensures)
@@ -83,7 +83,7 @@ plain-requires-5 : tie.Need-plain-requires-5
 plain-requires-5 c κs = search needs
 
 returns-5 : tie.Need-returns-5
-returns-5 c = 
+returns-5 c =
     let k = c .before .before .before .before in
     c .plain5 .ensures
     ∙ decide-empty _ _ _ _ (pass (k .before .before .before .before)) (k .before .before .if1 .left) (k .before .if2 .left) (k .first-done .result) (k .first-done .ensures) (c .before .before .if3 .left) (c .before .if4 .taken)
@@ -110,7 +110,7 @@ enum-known-h : tie.Need-enum-known-h
 enum-known-h c = search needs
 
 on-header-requires : tie.Need-on-header-requires
-on-header-requires c κs = 
+on-header-requires c κs =
     let r = c .before .before .before in
     let t = r .before .before .before .before .before .before .before .before .before .before .before .before .before .before .before in
     let p = passed (r .before .before .before .before .before .before .before .before) in

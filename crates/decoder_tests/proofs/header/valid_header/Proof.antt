@@ -45,7 +45,7 @@ fits-all-requires : tie.Need-fits-all-requires
 fits-all-requires c κs = search needs
 
 returns-3 : tie.Need-returns-3
-returns-3 c = 
+returns-3 c =
     let s = c .before .before .before .before .before .before in
     let d = s .before .before .before .before .before .before .args .d in
     valid-9 _ _ _ (path-valid (s .before .before))
@@ -55,7 +55,7 @@ size-checked-requires : tie.Need-size-checked-requires
 size-checked-requires c κs = search needs
 
 returns-4 : tie.Need-returns-4
-returns-4 c = 
+returns-4 c =
     let s = c .before .before .before .before in
     let d = s .before .before .before .before .before .before .args .d in
     valid-9 _ _ _ (path-valid (s .before .before))
