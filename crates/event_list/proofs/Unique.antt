@@ -8,6 +8,10 @@ use denote.Ref.{now}
 use Rattle.tools.proofs.Unique.{same, gives-same}
 use Rattle.event_list.specs.declared.types.Listing.{Listing}
 use Rattle.event_list.specs.declared.types.Turn.{Turn}
+use Rattle.event_list.proofs.bench.entries.Reads as entries
+use Rattle.event_list.proofs.bench.entries.Kinds as entries-kinds
+use Rattle.event_list.proofs.bench.parts.Reads as parts
+use Rattle.event_list.proofs.bench.parts.Kinds as parts-kinds
 use Rattle.event_list.proofs.lines.put_line.Reads as put-line
 use Rattle.event_list.proofs.lines.put_line.Kinds as put-line-kinds
 use Rattle.event_list.proofs.listing.start.Reads as start
@@ -18,6 +22,12 @@ use Rattle.event_list.proofs.listing.keep.Reads as keep
 use Rattle.event_list.proofs.listing.keep.Kinds as keep-kinds
 use Rattle.event_list.proofs.listing.after_read.Reads as after-read
 use Rattle.event_list.proofs.listing.after_read.Kinds as after-read-kinds
+
+pub entries-one : (κs : Lfts 0) (a : Dens κs entries-kinds.ps) (r r' : List ℕ) (e : _) → entries.Post κs a r e → entries.Post κs a r' e → r ≡ r'
+entries-one κs a r r' e p q = same p q
+
+pub parts-one : (κs : Lfts 0) (a : Dens κs parts-kinds.ps) (r r' : List ℕ) (e : _) → parts.Post κs a r e → parts.Post κs a r' e → r ≡ r'
+parts-one κs a r r' e p q = same p q
 
 pub start-one : (κs : Lfts 0) (a : Dens κs start-kinds.ps) (r r' : Listing) (e : _) → start.Post κs a r e → start.Post κs a r' e → r ≡ r'
 start-one κs a r r' e p q = same p q
