@@ -7,7 +7,7 @@ ghost use lib.ListN.{length};
 ghost use Rattle.table.specs.Lists.{every};
 ghost use Rattle.table.specs.Table.{partsOf, within};
 ghost use Rattle.decoder_state.specs.OneCall.{goodOpen};
-ghost use Rattle.decoder_state.specs.State.{opens, noEnd, endFor, fresh, withNotes, atPosition, implied, settledTo, opened, closedTo, handedOut, grownBy, grown};
+ghost use Rattle.decoder_state.specs.State.{opens, noEnd, endFor, fresh, withNotes, atPosition, implied, settledTo, closedTo, handedOut, grownBy, grown};
 use crate::types::TagDecoder;
 use crate::types::WaitingEnd;
 use spec_util::types::OpenTag;
@@ -99,17 +99,6 @@ pub fn settled_to(mut d: TagDecoder, parts: &[u64], path: Path) -> TagDecoder
         d.open[i] = implied_by(path_part(parts, path, i));
         i += 1;
     }
-    d
-}
-
-// A master more, at the top.
-pub fn opened(mut d: TagDecoder, m: OpenTag) -> TagDecoder
-    requires { ⌜ d .«open_count» < 32 ⌝ }
-    ensures { λ r. ⌜ r ≡ opened d m ⌝ }
-{
-    let n = d.open_count;
-    d.open[n] = m;
-    d.open_count = n + 1;
     d
 }
 

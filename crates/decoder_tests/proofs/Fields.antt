@@ -1,8 +1,10 @@
--- The definitions of one call at the fields of the record that they read. Assumes nothing.
-use Prim.Native.Nat.{ℕ, _+_}
+-- The definitions of one call at the fields that they read: those of the record, or what was seen of them. Assumes nothing.
+use Prim.Native.Nat.{ℕ, _+_, _-_, _^_, _≤_, _<_}
 use mathlib.Core.Path.{_≡_, refl, _∙_}
 use mathlib.Core.Bool.{Bool, true, false, not, _&&_, _||_}
 use mathlib.Core.List.{List}
+use borrow.Author.Tests.{le-leb, lt-leb}
+use lib.Dec.{leb}
 use Rattle.table.specs.Lists.{every}
 use Rattle.table.specs.Table.{Entry, pathOf}
 use Rattle.table.specs.declared.types.PathPart.{PathPart}
@@ -17,7 +19,10 @@ use Rattle.decoder_state.specs.declared.types.Check.{Check}
 use Rattle.decoder_state.specs.declared.types.Check.the-variants.{Pass, Fail}
 use Rattle.decoder_state.specs.declared.types.DecodeError.the-variants.{HierarchyError, OversizedChildElement}
 use Rattle.decoder_state.specs.declared.types.TagDecoder.{TagDecoder}
+use Rattle.decoder_tests.specs.Look.{leastEnd, seen}
+use Rattle.decoder_tests.specs.declared.look.Seen.{Seen}
 use Rattle.decoder_tests.specs.Parts.{refusedFor, afterFinish, isWalked, sizeChecked}
+use Rattle.decoder_tests.proofs.Least.{every-reaches}
 
 -- ---- step 1
 
@@ -41,36 +46,39 @@ unless-walked true false true valid = refl
 unless-walked true true false valid = refl
 unless-walked true true true valid = refl
 
-module _ (t : List Entry) (d : TagDecoder) (h : TagHeader) where
-  pub not-walked : isWalked (h .kind) (d .settled) (d .«allow_hierarchy») ≡ false → step8 t d h ≡ true
+module _ (t : List Entry) (d : TagDecoder) (h : TagHeader) {s : Seen} (e : s ≡ seen d) where
+  pub not-walked : isWalked (h .kind) (s .settled) (s .«allow_hierarchy») ≡ false → true ≡ step8 t d h
   unfolding step8 isWalked
-  not-walked e = rw (unless-walked (d .settled) (d .«allow_hierarchy») (isTyped (h .kind)), e)
+  not-walked w = rw (unless-walked (d .settled) (d .«allow_hierarchy») (isTyped (h .kind)), rw e at w)
 
-  pub walked : {path : List PathPart} → isWalked (h .kind) (d .settled) (d .«allow_hierarchy») ≡ true → path ≡ pathOf t (h .id)
-      → step8 t d h ≡ walkFrom t path (h .id) 0 0 (opens d)
+  pub walked : {path : List PathPart} {r : Bool} → isWalked (h .kind) (s .settled) (s .«allow_hierarchy») ≡ true → path ≡ pathOf t (h .id)
+      → r ≡ walkFrom t path (h .id) 0 0 (opens d) → r ≡ step8 t d h
   unfolding step8 isWalked validateTagPath
-  walked e p = rw (unless-walked (d .settled) (d .«allow_hierarchy») (isTyped (h .kind)), e, p)
+  walked w p f = rw (unless-walked (d .settled) (d .«allow_hierarchy») (isTyped (h .kind)), rw e at w, ← p) f
 
 -- ---- step 9
 
-module _ (d : TagDecoder) (len : ℕ) {size : EBMLSize} where
-  pub no-size : size ≡ Unknown → step9 d len size ≡ Pass
-  unfolding step9
-  no-size e = rw e
+pub no-size : (d : TagDecoder) (len : ℕ) {size : EBMLSize} → size ≡ Unknown → step9 d len size ≡ Pass
+unfolding step9
+no-size d len e = rw e
 
-  module _ {n : ℕ} (e : size ≡ Known n) where
-    pub sized-allowed : d .«allow_oversized» ≡ true → step9 d len size ≡ sizeChecked (d .«max_given») (d .«max_size») n
+module _ (d : TagDecoder) {s : Seen} (e : s ≡ seen d) (len : ℕ) {size : EBMLSize} {n : ℕ} (known : size ≡ Known n) where
+  pub sized-allowed : s .«allow_oversized» ≡ true → step9 d len size ≡ sizeChecked (s .«max_given») (s .«max_size») n
+  unfolding step9 sizeChecked
+  sized-allowed a = rw (known, e, rw e at a)
+
+  module _ (fits : s .position + (len + n) ≤ 2 ^ 64 - 1) (a : s .«allow_oversized» ≡ false) where
+    -- the least end stands for all
+    all-reach : every (reaches (d .position + (len + n))) (opens d) ≡ leb (d .position + (len + n)) (leastEnd (opens d))
+    all-reach = every-reaches (d .position + (len + n)) (rw e at fits) (opens d)
+
+    pub oversized : s .least < s .position + (len + n) → step9 d len size ≡ Fail OversizedChildElement
+    unfolding step9
+    oversized f = rw (known, rw e at a, all-reach, lt-leb _ _ (rw e at f))
+
+    pub sized-fits : s .position + (len + n) ≤ s .least → step9 d len size ≡ sizeChecked (s .«max_given») (s .«max_size») n
     unfolding step9 sizeChecked
-    sized-allowed a = rw (e, a)
-
-    module _ (a : d .«allow_oversized» ≡ false) where
-      pub oversized : every (reaches (d .position + (len + n))) (opens d) ≡ false → step9 d len size ≡ Fail OversizedChildElement
-      unfolding step9
-      oversized f = rw (e, a, f)
-
-      pub sized-fits : every (reaches (d .position + (len + n))) (opens d) ≡ true → step9 d len size ≡ sizeChecked (d .«max_given») (d .«max_size») n
-      unfolding step9 sizeChecked
-      sized-fits f = rw (e, a, f)
+    sized-fits f = rw (known, e, rw e at a, all-reach, le-leb _ _ (rw e at f))
 
 -- ---- steps 8 and 9
 

@@ -1,5 +1,7 @@
 pub mod Sums
 pub mod Lists
-pub mod Good
+pub mod Shown
+pub mod Least
 pub mod Fields
 pub mod Tops
+pub mod Looking

@@ -20,10 +20,10 @@ length-of-map X Y f l n h = sym (length-map l f) ∙ h
 -- ---- the elements in use
 
 module _ {A : Type 0} (l : List A) (n : ℕ) (h : n ≤ length l) where
-  pub in-use : (i : ℕ) → i < n → i < length (take n l)
+  in-use : (i : ℕ) → i < n → i < length (take n l)
   in-use i k = rw (length-take-le n l h) k
 
-  pub past-use : (i : ℕ) → n ≤ i → length (take n l) ≤ i
+  past-use : (i : ℕ) → n ≤ i → length (take n l) ≤ i
   past-use i k = rw (length-take-le n l h) k
 
   -- from the top down: the last of them, and what stands below it

@@ -1,29 +1,27 @@
-// Which masters close, and whether they may.
+// Which masters close, and whether they may. The masters' IDs stand in lent words.
 
+ghost use mathlib.Core.List.{reverse};
 ghost use mathlib.Core.Path.{_≡_};
-ghost use Prim.Native.Nat.{_≤_};
-ghost use lib.ListN.{drop};
+ghost use Prim.Native.Nat.{_-_, _≤_};
+ghost use lib.ListN.{length, take, drop};
 ghost use Rattle.table.specs.Lists.{every};
 ghost use Rattle.table.specs.Table.{tableOf, dataTypeOf, isMaster};
-ghost use Rattle.decoder_state.specs.State.{opens};
-ghost use Rattle.decoder_state.specs.OneCall.{closing, step10};
+ghost use Rattle.decoder_state.specs.OneCall.{closing, endedTops};
+ghost use Rattle.decoder_tests.specs.Look.{ForIds, ForMasters};
 use decoder_state::types::Action;
 use decoder_state::types::DecodeError;
-use decoder_state::types::TagDecoder;
 use spec_util::ended::is_ended_by;
 use table::lookup::get_tag_data_type;
 use table::lookup::is_master;
 
-// Whether the masters above the first k are Masters of the table.
-pub fn all_masters(entries: &[u64], parts: &[u64], d: TagDecoder, k: usize) -> bool
-    requires { ⌜ d .«open_count» ≤ 32 ⌝ }
-    ensures { λ r. ⌜ r ≡ every (λ m. isMaster (dataTypeOf (tableOf (now (entries .entry)) (now (parts .entry))) (m .id))) (drop k (opens d)) ⌝ }
+// Whether, of the first n, those above the first k are Masters of the table.
+pub fn all_masters(entries: &[u64], parts: &[u64], ids: &[u64], k: usize, n: usize) -> bool
+    requires { ⌜ n ≤ length (now ids) ⌝ }
+    ensures { λ r. ⌜ r ≡ every (λ x. isMaster (dataTypeOf (tableOf (now (entries .entry)) (now (parts .entry))) x)) (drop k (take n (now (ids .entry)))) ⌝ }
 {
-    let n = d.open_count;
     let mut i = k;
     while i < n {
-        let m = d.open[i];
-        if !is_master(get_tag_data_type(entries, parts, m.id)) {
+        if !is_master(get_tag_data_type(entries, parts, ids[i])) {
             return false;
         }
         i += 1;
@@ -31,28 +29,34 @@ pub fn all_masters(entries: &[u64], parts: &[u64], d: TagDecoder, k: usize) -> b
     true
 }
 
-pub fn closing(entries: &[u64], parts: &[u64], d: TagDecoder, k: usize) -> Action
-    requires { ⌜ d .«open_count» ≤ 32 ⌝ }
-    ensures { λ r. ⌜ r ≡ closing (tableOf (now (entries .entry)) (now (parts .entry))) d k ⌝ }
+pub fn closing(entries: &[u64], parts: &[u64], ids: &[u64], k: usize, n: usize) -> Action
+    requires { ⌜ n ≤ length (now ids) ⌝ }
+    ensures { λ r. ⌜ ForIds (now (ids .entry)) n (λ d. r ≡ closing (tableOf (now (entries .entry)) (now (parts .entry))) d k) ⌝ }
 {
-    if all_masters(entries, parts, d, k) {
+    if all_masters(entries, parts, ids, k, n) {
         return Action::Close(k);
     }
     Action::Refuse(DecodeError::NotAMaster)
 }
 
-// How many masters stay open, where those at the top close that are Unknown and ended by the ID.
-pub fn step10(entries: &[u64], parts: &[u64], d: TagDecoder, id: u64) -> usize
-    requires { ⌜ d .«open_count» ≤ 32 ⌝ }
-    ensures { λ r. ⌜ r ≡ step10 (tableOf (now (entries .entry)) (now (parts .entry))) d id ⌝ }
+// How many of `count` masters stay open, where those at the top close that are Unknown and ended by the ID.
+pub fn step10(
+    entries: &[u64],
+    parts: &[u64],
+    ids: &[u64],
+    knowns: &[bool],
+    count: usize,
+    id: u64,
+) -> usize
+    requires { ⌜ (count ≤ length (now ids)) × (count ≤ length (now knowns)) ⌝ }
+    ensures { λ r. ⌜ ForMasters (now (ids .entry)) (now (knowns .entry)) count (λ l. r ≡ count - endedTops (tableOf (now (entries .entry)) (now (parts .entry))) id (reverse l)) ⌝ }
 {
-    let mut n = d.open_count;
+    let mut n = count;
     while 0 < n {
-        let m = d.open[n - 1];
-        if m.known {
+        if knowns[n - 1] {
             return n;
         }
-        if !is_ended_by(entries, parts, m.id, id) {
+        if !is_ended_by(entries, parts, ids[n - 1], id) {
             return n;
         }
         n -= 1;

@@ -1,22 +1,25 @@
-// Steps 7 to 9: what the record says of a header.
+// Steps 7 to 9: what the record, as it was seen, says of a header.
 
 ghost use mathlib.Core.Path.{_≡_};
 ghost use mathlib.Core.Bool.{not, _&&_};
 ghost use Prim.Native.Nat.{_^_, _≤_, _<_};
+ghost use lib.ListN.{length};
 ghost use Rattle.table.specs.Check.{onlyIds};
 ghost use Rattle.table.specs.Table.{tableOf, partsOf, within, pathOf, isTyped};
-ghost use Rattle.decoder_state.specs.OneCall.{partsFor, step7, step8, validHeader};
+ghost use Rattle.spec_util.specs.Walk.{walkFrom};
+ghost use Rattle.decoder_state.specs.OneCall.{partsFor, step8, validHeader};
+ghost use Rattle.decoder_tests.specs.Look.{ForMasters, ForSeen};
 ghost use Rattle.decoder_tests.specs.Parts.{knownSize, noteFor, isWalked, sizeChecked};
-use crate::places::fits_all;
+use crate::look::Seen;
 use decoder_state::types::Check;
 use decoder_state::types::DecodeError;
 use decoder_state::types::Note;
-use decoder_state::types::TagDecoder;
 use spec_util::types::Walk;
 use spec_util::walk::walk_end;
 use spec_util::walk::walk_master;
 use table::check::only_ids;
 use table::lookup::is_typed;
+use table::types::Path;
 use table::types::TagDataType;
 use tag_parse::types::EBMLSize;
 use tag_parse::types::TagHeader;
@@ -47,12 +50,6 @@ pub fn note_for(parts: &[u64], settled: bool, h: TagHeader) -> Note
     Note::NoNote
 }
 
-pub fn step7(parts: &[u64], d: TagDecoder, h: TagHeader) -> Note
-    ensures { λ r. ⌜ r ≡ step7 (now (parts .entry)) d h ⌝ }
-{
-    note_for(parts, d.settled, h)
-}
-
 // Whether step 8 goes along the path.
 fn is_walked(kind: TagDataType, settled: bool, allowed: bool) -> bool
     ensures { λ r. ⌜ r ≡ isWalked kind settled allowed ⌝ }
@@ -65,25 +62,24 @@ fn is_walked(kind: TagDataType, settled: bool, allowed: bool) -> bool
     false
 }
 
-// The walk goes over the open masters where they stand.
-pub fn step8(entries: &[u64], parts: &[u64], d: TagDecoder, h: TagHeader) -> bool
-    requires { ⌜ d .«open_count» ≤ 32 ⌝ }
-    requires { ⌜ within (partsOf (now parts)) (h .path) ≡ pathOf (tableOf (now entries) (now parts)) (h .id) ⌝ }
-    ensures { λ r. ⌜ r ≡ step8 (tableOf (now (entries .entry)) (now (parts .entry))) d h ⌝ }
+// The walk along a path, over masters that are shown in lent words.
+fn walked(
+    entries: &[u64],
+    parts: &[u64],
+    path: Path,
+    id: u64,
+    ids: &[u64],
+    knowns: &[bool],
+    n: usize,
+) -> bool
+    requires { ⌜ (n ≤ length (now ids)) × (n ≤ length (now knowns)) × (n ≤ 32) ⌝ }
+    ensures { λ r. ⌜ ForMasters (now (ids .entry)) (now (knowns .entry)) n (λ l. r ≡ walkFrom (tableOf (now (entries .entry)) (now (parts .entry))) (within (partsOf (now (parts .entry))) path) id 0 0 l) ⌝ }
 {
-    let id = h.id;
-    let kind = h.kind;
-    let path = h.path;
-    if !is_walked(kind, d.settled, d.allow_hierarchy) {
-        return true;
-    }
-    let n = d.open_count;
     let mut marker: usize = 0;
     let mut counter: u64 = 0;
     let mut i: usize = 0;
     while i < n {
-        let m = d.open[i];
-        match walk_master(entries, parts, path, id, m.id, m.known, marker, counter) {
+        match walk_master(entries, parts, path, id, ids[i], knowns[i], marker, counter) {
             Walk::Accept => {
                 return true;
             }
@@ -103,6 +99,26 @@ pub fn step8(entries: &[u64], parts: &[u64], d: TagDecoder, h: TagHeader) -> boo
     walk_end(parts, path, marker, counter)
 }
 
+fn step8(
+    entries: &[u64],
+    parts: &[u64],
+    s: Seen,
+    ids: &[u64],
+    knowns: &[bool],
+    h: TagHeader,
+) -> bool
+    requires { ⌜ (s .count ≤ length (now ids)) × (s .count ≤ length (now knowns)) × (s .count ≤ 32) ⌝ }
+    requires { ⌜ within (partsOf (now parts)) (h .path) ≡ pathOf (tableOf (now entries) (now parts)) (h .id) ⌝ }
+    ensures { λ r. ⌜ ForSeen s (now (ids .entry)) (now (knowns .entry)) (λ d. r ≡ step8 (tableOf (now (entries .entry)) (now (parts .entry))) d h) ⌝ }
+{
+    let kind = h.kind;
+    let path = h.path;
+    if is_walked(kind, s.settled, s.allow_hierarchy) {
+        return walked(entries, parts, path, h.id, ids, knowns, s.count);
+    }
+    true
+}
+
 // 17, of a size that fits.
 fn size_checked(given: bool, greatest: u64, n: u64) -> Check
     ensures { λ r. ⌜ r ≡ sizeChecked given greatest n ⌝ }
@@ -115,23 +131,31 @@ fn size_checked(given: bool, greatest: u64, n: u64) -> Check
     Check::Pass
 }
 
-// 8, then 9, which is written out here, since a record that goes through a call is copied.
-pub fn valid_header(entries: &[u64], parts: &[u64], d: TagDecoder, h: TagHeader) -> Check
-    requires { ⌜ (d .«open_count» ≤ 32) × (d .position ≤ 2 ^ 62) × (h .len ≤ 16) × (knownSize (h .size) < 2 ^ 56) ⌝ }
+// 8, then 9, for which the least end stands for all.
+pub fn valid_header(
+    entries: &[u64],
+    parts: &[u64],
+    s: Seen,
+    ids: &[u64],
+    knowns: &[bool],
+    h: TagHeader,
+) -> Check
+    requires { ⌜ (s .count ≤ length (now ids)) × (s .count ≤ length (now knowns)) × (s .count ≤ 32) ⌝ }
+    requires { ⌜ (s .position ≤ 2 ^ 62) × (h .len ≤ 16) × (knownSize (h .size) < 2 ^ 56) ⌝ }
     requires { ⌜ within (partsOf (now parts)) (h .path) ≡ pathOf (tableOf (now entries) (now parts)) (h .id) ⌝ }
-    ensures { λ r. ⌜ r ≡ validHeader (tableOf (now (entries .entry)) (now (parts .entry))) d h ⌝ }
+    ensures { λ r. ⌜ ForSeen s (now (ids .entry)) (now (knowns .entry)) (λ d. r ≡ validHeader (tableOf (now (entries .entry)) (now (parts .entry))) d h) ⌝ }
 {
     let size = h.size;
-    if !step8(entries, parts, d, h) {
+    if !step8(entries, parts, s, ids, knowns, h) {
         return Check::Fail(DecodeError::HierarchyError);
     }
     let EBMLSize::Known(n) = size else {
         return Check::Pass;
     };
-    if !d.allow_oversized {
-        if !fits_all(d, d.position + (h.len as u64 + n)) {
+    if !s.allow_oversized {
+        if s.least < s.position + (h.len as u64 + n) {
             return Check::Fail(DecodeError::OversizedChildElement);
         }
     }
-    size_checked(d.max_given, d.max_size, n)
+    size_checked(s.max_given, s.max_size, n)
 }

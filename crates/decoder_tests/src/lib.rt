@@ -3,4 +3,6 @@
 pub mod checks;
 pub mod closing;
 pub mod header;
+pub mod look;
 pub mod places;
+pub mod whole;

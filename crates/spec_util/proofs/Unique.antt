@@ -1,5 +1,6 @@
 -- No second answer satisfies a contract: of each public routine, two answers that the contract, as Rattle reads it, allows for the same
 -- arguments are equal. Assumes nothing.
+use Prim.Native.Nat.{ℕ}
 use mathlib.Core.Path.{_≡_}
 use mathlib.Core.Bool.{Bool}
 use contract.Lifetimes.{Lfts}
@@ -19,6 +20,8 @@ use Rattle.spec_util.proofs.walk.walk_master.Kinds as walk-master-kinds
 use Rattle.spec_util.proofs.walk.walk_master.Reads as walk-master
 use Rattle.spec_util.proofs.walk.walk_end.Kinds as walk-end-kinds
 use Rattle.spec_util.proofs.walk.walk_end.Reads as walk-end
+use Rattle.spec_util.proofs.walk.at_most_32.Kinds as at-most-32-kinds
+use Rattle.spec_util.proofs.walk.at_most_32.Reads as at-most-32
 use Rattle.spec_util.proofs.walk.validate_tag_path.Kinds as validate-tag-path-kinds
 use Rattle.spec_util.proofs.walk.validate_tag_path.Reads as validate-tag-path
 
@@ -45,6 +48,10 @@ walk-master-determined κs a r r' e = same
 pub walk-end-determined : (κs : Lfts 1) (a : Dens κs walk-end-kinds.ps) (r r' : Bool)
     → ((e : _) → walk-end.Post κs a r e → walk-end.Post κs a r' e → r ≡ r')
 walk-end-determined κs a r r' e = same
+
+pub at-most-32-determined : (κs : Lfts 0) (a : Dens κs at-most-32-kinds.ps) (r r' : ℕ)
+    → ((e : _) → at-most-32.Post κs a r e → at-most-32.Post κs a r' e → r ≡ r')
+at-most-32-determined κs a r r' e = same
 
 pub validate-tag-path-determined : (κs : Lfts 2) (a : Dens κs validate-tag-path-kinds.ps) (r r' : Bool)
     → ((e : _) → validate-tag-path.Post κs a r e → validate-tag-path.Post κs a r' e → r ≡ r')

@@ -167,7 +167,8 @@ pub fn walk_end(parts: &[u64], path: Path, marker: usize, counter: u64) -> bool
     min_met(path_part(parts, path, marker), counter)
 }
 
-fn at_most_32(count: usize) -> usize
+// A record has places for 32 masters.
+pub fn at_most_32(count: usize) -> usize
     ensures { λ r. ⌜ r ≡ min count 32 ⌝ }
 {
     if count < 32 {

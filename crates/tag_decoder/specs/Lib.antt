@@ -1,3 +1,4 @@
 pub mod Settings
 pub mod Fits
 pub mod Recovery
+pub mod Moves

@@ -1,15 +1,12 @@
-// What was decided is applied, and the record moves once.
+// What is answered and taken where the record moves; the moves themselves stand in `decode`.
 
 ghost use mathlib.Core.Path.{_≡_};
-ghost use Prim.Native.Nat.{_+_, _^_, _≤_, _<_};
+ghost use Prim.Native.Nat.{_-_, _≤_, _<_};
 ghost use Rattle.decoder_state.specs.OneCall.{gives, refuse, noted, move};
-ghost use Rattle.decoder_state.specs.declared.types.Action.the-variants.{HandOut, Close, Start, Data};
-ghost use Rattle.tag_decoder.specs.Fits.{NoteFits, Fits};
-use decoder_element::element::open_tag;
-use decoder_state::moves::at_position;
+ghost use Rattle.decoder_state.specs.declared.types.Action.the-variants.{Close};
+ghost use Rattle.tag_decoder.specs.Fits.{NoteFits};
+ghost use Rattle.tag_decoder.specs.Moves.{answerTo, takenBy};
 use decoder_state::moves::closed_to;
-use decoder_state::moves::handed_out;
-use decoder_state::moves::opened;
 use decoder_state::moves::settled_to;
 use decoder_state::types::Action;
 use decoder_state::types::Answer;
@@ -19,8 +16,8 @@ use decoder_state::types::Event;
 use decoder_state::types::Note;
 use decoder_state::types::Refusal;
 use decoder_state::types::TagDecoder;
-use tag_parse::types::EBMLSize;
-use tag_parse::types::TagValue;
+use decoder_state::types::WaitingEnd;
+use spec_util::types::OpenTag;
 
 // An answer that takes no byte.
 pub fn still(answer: Answer, state: TagDecoder) -> Decoded
@@ -39,18 +36,6 @@ pub fn refused(error: DecodeError, place: u64, state: TagDecoder) -> Decoded
     still(Answer::Refused(Refusal { error, place }), state)
 }
 
-fn hand_out(d: TagDecoder) -> Decoded
-    requires { ⌜ 0 < d .«waiting_count» ⌝ }
-    ensures { λ r. ⌜ r ≡ move d HandOut ⌝ }
-{
-    let end = d.waiting[0];
-    let event = Event::End {
-        id: end.id,
-        offset: end.offset,
-    };
-    still(Answer::Event(event), handed_out(d))
-}
-
 pub fn close(d: TagDecoder, k: usize) -> Decoded
     requires { ⌜ (k < d .«open_count») × (d .«open_count» ≤ 32) ⌝ }
     ensures { λ r. ⌜ r ≡ move d (Close k) ⌝ }
@@ -64,53 +49,62 @@ pub fn close(d: TagDecoder, k: usize) -> Decoded
     still(Answer::Event(event), closed_to(d, k))
 }
 
-fn start(d: TagDecoder, id: u64, size: EBMLSize, len: usize) -> Decoded
-    requires { ⌜ (d .«open_count» < 32) × (d .position + len ≤ 2 ^ 62) ⌝ }
-    ensures { λ r. ⌜ r ≡ move d (Start id size len) ⌝ }
+// The index of the last of so many; 0 for none, 31 for more than 32.
+pub fn top_of(count: usize) -> usize
+    ensures { λ r. ⌜ (r < 32) × (count ≤ 32 → r ≡ count - 1) ⌝ }
 {
-    let position = d.position;
-    let event = Event::Start {
-        id,
-        offset: position,
-    };
-    let master = open_tag(id, size, position, len);
-    Decoded {
-        answer: Answer::Event(event),
-        taken: len,
-        state: opened(at_position(d, position + len as u64), master),
+    if count == 0 {
+        return 0;
     }
+    if 32 < count {
+        return 31;
+    }
+    count - 1
 }
 
-fn data(d: TagDecoder, id: u64, value: TagValue, taken: usize) -> Decoded
-    requires { ⌜ d .position + taken ≤ 2 ^ 62 ⌝ }
-    ensures { λ r. ⌜ r ≡ move d (Data id value taken) ⌝ }
-{
-    let position = d.position;
-    let event = Event::Data {
-        id,
-        offset: position,
-        value,
-    };
-    Decoded {
-        answer: Answer::Event(event),
-        taken,
-        state: at_position(d, position + taken as u64),
-    }
-}
-
-// The record has the note; n bytes were lent.
-pub fn moved(d: TagDecoder, n: usize, action: Action) -> Decoded
-    requires { ⌜ Fits d n action ⌝ }
-    ensures { λ r. ⌜ r ≡ move d action ⌝ }
+// What is answered: `first` is the first waiting End, `top` the top master.
+pub fn answer_to(action: Action, position: u64, first: WaitingEnd, top: OpenTag) -> Answer
+    ensures { λ r. ⌜ r ≡ answerTo action position first top ⌝ }
 {
     match action {
-        Action::Refuse(e) => refused(e, d.position, d),
-        Action::NeedMore => still(Answer::NeedMore, d),
-        Action::Finish => still(Answer::Finished, d),
-        Action::HandOut => hand_out(d),
-        Action::Close(k) => close(d, k),
-        Action::Start { id, size, len } => start(d, id, size, len),
-        Action::Data { id, value, taken } => data(d, id, value, taken),
+        Action::Refuse(error) => Answer::Refused(Refusal {
+            error,
+            place: position,
+        }),
+        Action::NeedMore => Answer::NeedMore,
+        Action::Finish => Answer::Finished,
+        Action::HandOut => Answer::Event(Event::End {
+            id: first.id,
+            offset: first.offset,
+        }),
+        Action::Close(_) => Answer::Event(Event::End {
+            id: top.id,
+            offset: top.tag_start,
+        }),
+        Action::Start { id, .. } => Answer::Event(Event::Start {
+            id,
+            offset: position,
+        }),
+        Action::Data { id, value, .. } => Answer::Event(Event::Data {
+            id,
+            offset: position,
+            value,
+        }),
+    }
+}
+
+// How many bytes are taken.
+pub fn taken_by(action: Action) -> usize
+    ensures { λ r. ⌜ r ≡ takenBy action ⌝ }
+{
+    match action {
+        Action::Refuse(_) => 0,
+        Action::NeedMore => 0,
+        Action::Finish => 0,
+        Action::HandOut => 0,
+        Action::Close(_) => 0,
+        Action::Start { len, .. } => len,
+        Action::Data { taken, .. } => taken,
     }
 }
 

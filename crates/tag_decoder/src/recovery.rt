@@ -18,9 +18,9 @@ use decoder_state::types::Recovered;
 use decoder_state::types::Refusal;
 use decoder_state::types::Search;
 use decoder_state::types::TagDecoder;
-use decoder_tests::checks::refused12;
-use decoder_tests::header::step7;
-use decoder_tests::header::valid_header;
+use decoder_tests::header::note_for;
+use decoder_tests::whole::refused12;
+use decoder_tests::whole::valid_header_of;
 use tag_parse::header::read_header;
 use tag_parse::types::ReadHeader;
 use tag_parse::types::TagHeader;
@@ -53,7 +53,7 @@ fn judged_at(entries: &[u64], parts: &[u64], d: TagDecoder, h: TagHeader) -> Pla
     requires { ⌜ GoodRecord d × GoodHeader (now entries) (now parts) h × (d .position + 1 ≤ 2 ^ 62) ⌝ }
     ensures { λ r. ⌜ r ≡ judgedAt (tableOf (now (entries .entry)) (now (parts .entry))) d h ⌝ }
 {
-    match valid_header(entries, parts, d, h) {
+    match valid_header_of(entries, parts, d, h) {
         Check::Pass => Placed {
             place: Place::Found,
             state: d,
@@ -70,7 +70,7 @@ fn header_at(entries: &[u64], parts: &[u64], d: TagDecoder, h: TagHeader) -> Pla
     if !is_allowed(d.allow_ids, h) {
         return step_on(d);
     }
-    let note = step7(parts, d, h);
+    let note = note_for(parts, d.settled, h);
     judged_at(entries, parts, with_note(parts, d, note), h)
 }
 

@@ -3,47 +3,50 @@ use Prim.Native.Nat.{_≤_}
 use mathlib.Core.Path.{_≡_, sym, _∙_}
 use borrow.Author.Tests.{not-true, not-false}
 use native.Mathlib.Omega.{arith}
-use lib.ListN.{length}
 use Rattle.table.specs.Table.{tableOf}
-use Rattle.decoder_tests.proofs.Lists.{length-of-map}
+use Rattle.decoder_tests.specs.Look.{ForMasters}
 use Rattle.decoder_tests.proofs.Tops.{Left, top-known, top-stays, top-closes, no-top, all-left}
 use Rattle.decoder_tests.proofs.closing.step10.Statement.{statement}
 use Rattle.decoder_tests.proofs.closing.step10.Tie as tie
 
 abbrev Inv-loop : tie.InvT-loop
-Inv-loop entries parts id d n₀ n = Left (tableOf entries parts) id (d .«open») (d .«open_count») n
+Inv-loop entries parts ids knowns count id n₀ n = (n ≤ count) × ForMasters ids knowns count (λ l. Left (tableOf entries parts) id l count n)
 
 abbrev μ-loop : tie.MeasureT-loop
-μ-loop entries parts id d n₀ n = n
-
-reach : (c : tie.Start Inv-loop μ-loop) → c .args .t3 .«open_count» ≤ length (c .args .t3 .«open»)
-reach c = let h : length (c .args .t3 .«open») ≡ 32 = search length-of-map in omega arith
+μ-loop entries parts ids knowns count id n₀ n = n
 
 loop-holds : tie.Need-loop-holds Inv-loop μ-loop
-loop-holds c = all-left _ _ _ _
+loop-holds c = (omega arith, λ l shown. all-left _ _ l _ (shown .shown-ids .many))
 
-sub-m : tie.Need-sub-m Inv-loop μ-loop
-sub-m c = omega arith
+sub-if1 : tie.Need-sub-if1 Inv-loop μ-loop
+sub-if1 c = omega arith
 
-mul-m : tie.Need-mul-m Inv-loop μ-loop
-mul-m c = omega arith
-
-element-copy-out-m : tie.Need-element-copy-out-m Inv-loop μ-loop
-element-copy-out-m c = omega arith
+shared-slice-read-if1 : tie.Need-shared-slice-read-if1 Inv-loop μ-loop
+shared-slice-read-if1 c = omega arith
 
 returns : tie.Need-returns Inv-loop μ-loop
-returns c =
+returns c l shown =
     let t = c .before .before .before in
-    top-known (reach (t .before .before .before)) (t .loop .inv) (c .before .before .loop-test .taken) (c .if1 .taken)
+    top-known shown (t .loop .inv .1 l shown) (c .before .before .loop-test .taken) (c .if1 .taken)
+
+sub-is-ended-by : tie.Need-sub-is-ended-by Inv-loop μ-loop
+sub-is-ended-by c = omega arith
+
+mul-is-ended-by : tie.Need-mul-is-ended-by Inv-loop μ-loop
+mul-is-ended-by c = omega arith
+
+shared-slice-read-is-ended-by : tie.Need-shared-slice-read-is-ended-by Inv-loop μ-loop
+shared-slice-read-is-ended-by c = omega arith
 
 is-ended-by-requires : tie.Need-is-ended-by-requires Inv-loop μ-loop
 is-ended-by-requires c κs = tt
 
 returns-2 : tie.Need-returns-2 Inv-loop μ-loop
-returns-2 c =
-    let t = c .before .before .before .before .before in
+returns-2 c l shown =
+    let u = c .before .before .before in
+    let t = u .before .before .before in
     let no = sym (c .before .is-ended-by .ensures) ∙ not-true (c .before .is-ended-by .result) (c .if2 .taken) in
-    top-stays (reach (t .before .before .before)) (t .loop .inv) (c .before .before .before .before .loop-test .taken) (c .before .before .if1 .left) no
+    top-stays shown (t .loop .inv .1 l shown) (u .before .before .loop-test .taken) (u .if1 .left) no
 
 sub-n : tie.Need-sub-n Inv-loop μ-loop
 sub-n c = omega arith
@@ -53,14 +56,15 @@ loop-less c = omega arith
 
 loop-again : tie.Need-loop-again Inv-loop μ-loop
 loop-again c =
-    let t = c .before .before .before .before .before in
+    let u = c .before .before .before in
+    let t = u .before .before .before in
     let yes = sym (c .before .is-ended-by .ensures) ∙ not-false (c .before .is-ended-by .result) (c .if2 .left) in
-    top-closes (reach (t .before .before .before)) (t .loop .inv) (c .before .before .before .before .loop-test .taken) (c .before .before .if1 .left) yes
+    (omega arith, λ l shown. top-closes shown (t .loop .inv .1 l shown) (u .before .before .loop-test .taken) (u .if1 .left) yes)
 
 returns-3 : tie.Need-returns-3 Inv-loop μ-loop
-returns-3 c =
+returns-3 c l shown =
     let t = c .before in
-    no-top (reach (t .before .before .before)) (t .loop .inv) (c .loop-test .left)
+    no-top shown (t .loop .inv .1 l shown) (c .loop-test .left)
 
 pub step10-spec : {M : Type 1} → statement M
 step10-spec =
@@ -69,10 +73,12 @@ step10-spec =
     Inv-loop
     μ-loop
     loop-holds
-    sub-m
-    mul-m
-    element-copy-out-m
+    sub-if1
+    shared-slice-read-if1
     returns
+    sub-is-ended-by
+    mul-is-ended-by
+    shared-slice-read-is-ended-by
     is-ended-by-requires
     returns-2
     sub-n

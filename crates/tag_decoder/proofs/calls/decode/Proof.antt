@@ -1,22 +1,72 @@
--- `tag_decoder::calls::decode`: what was decided fits the record, the note is made, and the rest is applied. Assumes nothing.
-use Prim.Native.Nat.{ℕ}
-use mathlib.Core.Path.{_≡_, sym, _∙_}
+-- `tag_decoder::calls::decode`: what was seen decides, the decision fits the record, the note is made, and the record moves part by part. Assumes nothing.
+use Prim.Native.Nat.{_+_, _^_, _≤_, _<_}
+use mathlib.Core.Path.{_≡_, refl, _∙_}
 use mathlib.Core.Logic.{⊎-elim}
+use native.Mathlib.Omega.{arith}
 use lib.ListN.{length}
-use Rattle.decoder_state.specs.OneCall.{noted, apply}
-use Rattle.tag_decoder.proofs.Fitting.{FitsAll, decide-fits, note-settles}
+use Rattle.decoder_state.specs.State.{withOpen, withNotes, opened}
+use Rattle.decoder_state.specs.OneCall.{decide, noted, gives, move, apply, decode}
+use Rattle.decoder_state.specs.declared.types.Action.{Action}
+use Rattle.decoder_state.specs.declared.types.TagDecoder.{TagDecoder}
+use Rattle.decoder_decide.proofs.Looking.{sound-look}
+use Rattle.tag_decoder.specs.Fits.{Fits}
+use Rattle.tag_decoder.proofs.Fitting.{FitsAll, decide-fits, note-settles, hands-out, closes, starts, passes-on}
+use Rattle.tag_decoder.proofs.Parts.{moved-parts}
 use borrow.Author.Needs.{needs}
 use Rattle.tag_decoder.proofs.calls.decode.Statement.{statement}
 use Rattle.tag_decoder.proofs.calls.decode.Tie as tie
 
+abbrev start : tie.After-look-at → tie.Start
+start c = c .before .before .before .before .before .before
+
+-- what was seen decides for the record
+decided : (c : tie.After-decide) → let a = start (c .before .before .before .before .before) .args in c .decide .result ≡ decide (a .entries .now) (a .parts .now) (a .t3) (a .input .now)
+decided c = let k = c .before .before .before .before .before in c .decide .ensures (start k .args .t3) (k .look-at .ensures .0) (k .look-at .ensures .1)
+
 -- what was decided fits
-fits : (c : tie.After-decide) → FitsAll (c .before .before .before .before .args .parts .now) (c .before .before .before .before .args .d) (length (c .before .before .before .before .args .input .now)) (c .decide .result)
+fits : (c : tie.After-decide) → let a = start (c .before .before .before .before .before) .args in FitsAll (a .parts .now) (a .t3) (length (a .input .now)) (c .decide .result)
 fits c =
-    let a = c .before .before .before .before .args in
-    rw (c .decide .ensures) (decide-fits (a .entries .now) (a .parts .now) (a .d) (a .input .now) (λ i. c .before .shared-slice-known3 .given i .fits))
+    let k = c .before .before .before .before .before in
+    let a = start k .args in
+    rw (decided c) (decide-fits (a .entries .now) (a .parts .now) (a .t3) (a .input .now) (λ i. k .before .before .before .shared-slice-known3 .given i .fits))
+
+-- the record has the note, whichever it is
+has-note : (c : tie.At-match-came) → let a = start (c .before .before .before .before .before .before) .args in c .match .d ≡ noted (a .parts .now) (a .t3) (c .before .decide .result .note)
+unfolding noted
+has-note c = ⊎-elim (λ w. rw (w .1 .given .1) (w .4 ∙ w .3 .ensures)) (λ w. rw (w .1 .given .1) (w .2)) (c .match .came)
+
+-- so the action fits it
+action-fits : (c : tie.After-taken-by) → let m = c .before .before .before .before .before in
+    Fits (m .match .d) (length (start (m .before .before .before .before .before .before) .args .input .now)) (m .before .decide .result .action)
+action-fits c =
+    let m = c .before .before .before .before .before in
+    rw (has-note m) (fits (m .before) .action)
+
+-- what starts has room
+room : (c : tie.After-action2) → let d = c .before .before .before .before .before .before .before .match .d in (d .«open_count» < 32) × (d .position + c .action2 .given .0 .1 .1 .0 ≤ 2 ^ 62)
+room c = starts _ _ _ _ _ (rw (c .action2 .given .1) at (action-fits (c .before .before)))
+
+slice-aggregate-look-at : tie.Need-slice-aggregate-look-at
+slice-aggregate-look-at c = search needs
+
+slice-aggregate-look-at-2 : tie.Need-slice-aggregate-look-at-2
+slice-aggregate-look-at-2 c = search needs
+
+look-at-requires : tie.Need-look-at-requires
+look-at-requires c κs = search needs
+
+slice-aggregate-decide : tie.Need-slice-aggregate-decide
+slice-aggregate-decide c = search needs
+
+slice-aggregate-decide-2 : tie.Need-slice-aggregate-decide-2
+slice-aggregate-decide-2 c = search needs
 
 decide-requires : tie.Need-decide-requires
-decide-requires c κs = search needs
+decide-requires c κs =
+    let k = c .before .before .before .before in
+    let i : length (k .look-at .last .1 .0) ≡ 32 = search needs in
+    let j : length (k .look-at .last .1 .1 .0) ≡ 32 = search needs in
+    (i, j, sound-look _ (k .look-at .ensures .0))
 
 enum-known-note : tie.Need-enum-known-note
 enum-known-note c = search needs
@@ -27,23 +77,145 @@ settled-to-requires c κs = note-settles _ _ (rw (c .before .note .given .1) at 
 enum-told : tie.Need-enum-told
 enum-told c = search needs
 
--- the record has the note, whichever it is
-has-note : (c : tie.At-match-came) → c .match .d ≡ noted (c .before .before .before .before .before .args .parts .now) (c .before .before .before .before .before .args .d) (c .before .decide .result .note)
-unfolding noted
-has-note c =
-    ⊎-elim
-    (λ w. rw (w .1 .given .1) (w .4 ∙ w .3 .ensures))
-    (λ w. rw (w .1 .given .1) (w .2))
-    (c .match .came)
+top-of-requires : tie.Need-top-of-requires
+top-of-requires c κs = search needs
 
-moved-requires : tie.Need-moved-requires
-moved-requires c κs = rw (has-note c) (fits (c .before) .action)
+element-copy-out-answer-to : tie.Need-element-copy-out-answer-to
+element-copy-out-answer-to c = search needs
+
+mul-answer-to : tie.Need-mul-answer-to
+mul-answer-to c = search needs
+
+element-copy-out-answer-to-2 : tie.Need-element-copy-out-answer-to-2
+element-copy-out-answer-to-2 c = search needs
+
+answer-to-requires : tie.Need-answer-to-requires
+answer-to-requires c κs = search needs
+
+taken-by-requires : tie.Need-taken-by-requires
+taken-by-requires c κs = search needs
+
+enum-told-2 : tie.Need-enum-told-2
+enum-told-2 c = search needs
+
+enum-told-3 : tie.Need-enum-told-3
+enum-told-3 c = search needs
+
+enum-told-4 : tie.Need-enum-told-4
+enum-told-4 c = search needs
+
+enum-told-5 : tie.Need-enum-told-5
+enum-told-5 c = search needs
+
+handed-out-requires : tie.Need-handed-out-requires
+handed-out-requires c κs = hands-out _ _ (rw (c .enum-told5 .given .1) at (action-fits (c .before .before)))
+
+enum-known-action : tie.Need-enum-known-action
+enum-known-action c = search needs
+
+closed-to-requires : tie.Need-closed-to-requires
+closed-to-requires c κs = closes _ _ _ (rw (c .before .action .given .1) at (action-fits (c .before .before .before)))
+
+enum-known-action-2 : tie.Need-enum-known-action-2
+enum-known-action-2 c = search needs
+
+open-tag-requires : tie.Need-open-tag-requires
+open-tag-requires c κs = let s = room (c .before) in (omega arith, omega arith)
+
+mul-t47 : tie.Need-mul-t47
+mul-t47 c = omega (arith, room (c .before .before))
+
+element-set-from-d : tie.Need-element-set-from-d
+element-set-from-d c = omega (arith, room (c .before .before))
+
+add-d : tie.Need-add-d
+add-d c = omega (arith, room (c .before .before))
+
+add-d-2 : tie.Need-add-d-2
+add-d-2 c = omega (arith, room (c .before .before))
+
+enum-known-action-3 : tie.Need-enum-known-action-3
+enum-known-action-3 c = search needs
+
+add-d-3 : tie.Need-add-d-3
+add-d-3 c = omega (arith, passes-on _ _ _ _ _ (rw (c .before .action3 .given .1) at (action-fits (c .before .before .before))))
+
+-- the answer, where the record is as the action moves it
+ends : (c : tie.After-taken-by) (a : Action) (s : TagDecoder) → let m = c .before .before .before .before .before in let t = start (m .before .before .before .before .before .before) .args in
+    m .before .decide .result .action ≡ a → s ≡ move (m .match .d) a .state → gives (c .before .answer-to .result) (c .taken-by .result) s ≡ decode (t .entries .now) (t .parts .now) (t .t3) (t .input .now)
+unfolding apply
+ends c a s e h =
+    let m = c .before .before .before .before .before in
+    let top = c .before .before .before .before in
+    rw (c .before .answer-to .ensures, c .taken-by .ensures, h, ← e)
+    (moved-parts (m .match .d) _ (top .top-of .result) _ (action-fits c) (top .top-of .ensures .1) ∙ rw (has-note m, decided (m .before)))
 
 returns : tie.Need-returns
-unfolding apply
-returns c = c .moved .ensures ∙ rw (has-note (c .before), c .before .before .decide .ensures)
+unfolding move
+returns c = ends (c .before .before) _ _ (c .enum-told2 .given .1) refl
+
+returns-2 : tie.Need-returns-2
+unfolding move
+returns-2 c = ends (c .before .before) _ _ (c .enum-told3 .given .1) refl
+
+returns-3 : tie.Need-returns-3
+unfolding move
+returns-3 c = ends (c .before .before) _ _ (c .enum-told4 .given .1) refl
+
+returns-4 : tie.Need-returns-4
+unfolding move
+returns-4 c = ends (c .before .before .before) _ _ (c .before .enum-told5 .given .1) (c .handed-out .ensures)
+
+returns-5 : tie.Need-returns-5
+unfolding move
+returns-5 c = ends (c .before .before .before .before) _ _ (c .before .before .action .given .1) (c .closed-to .ensures)
+
+returns-6 : tie.Need-returns-6
+unfolding move opened withOpen withNotes
+returns-6 c = ends (c .before .before .before .before) _ _ (c .before .before .action2 .given .1) (rw (c .open-tag .ensures))
+
+returns-7 : tie.Need-returns-7
+unfolding move withNotes
+returns-7 c = ends (c .before .before .before) _ _ (c .before .action3 .given .1) refl
 
 pub decode-spec : {M : Type 1} → statement M
 decode-spec =
     tie.close
-    (tie.spec decide-requires enum-known-note settled-to-requires enum-told moved-requires returns)
+    (tie.spec
+    slice-aggregate-look-at
+    slice-aggregate-look-at-2
+    look-at-requires
+    slice-aggregate-decide
+    slice-aggregate-decide-2
+    decide-requires
+    enum-known-note
+    settled-to-requires
+    enum-told
+    top-of-requires
+    element-copy-out-answer-to
+    mul-answer-to
+    element-copy-out-answer-to-2
+    answer-to-requires
+    taken-by-requires
+    enum-told-2
+    enum-told-3
+    enum-told-4
+    enum-told-5
+    handed-out-requires
+    enum-known-action
+    closed-to-requires
+    enum-known-action-2
+    open-tag-requires
+    mul-t47
+    element-set-from-d
+    add-d
+    add-d-2
+    enum-known-action-3
+    add-d-3
+    returns
+    returns-2
+    returns-3
+    returns-4
+    returns-5
+    returns-6
+    returns-7)

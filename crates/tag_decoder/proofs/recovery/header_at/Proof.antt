@@ -22,20 +22,20 @@ returns : tie.Need-returns
 unfolding headerAt
 returns c = c .step-on .ensures ∙ sym (cond-no _ _ _ (sym (c .before .before .is-allowed .ensures) ∙ not-true _ (c .before .if1 .taken)))
 
-step7-requires : tie.Need-step7-requires
-step7-requires c κs = search needs
+note-for-requires : tie.Need-note-for-requires
+note-for-requires c κs = search needs
 
 with-note-requires : tie.Need-with-note-requires
 with-note-requires c κs =
     let t = c .before .before .before .before .before in
-    rw (c .step7 .ensures) (note-fits (t .args .entries .now) (t .args .parts .now) (t .args .d) (t .args .h) (t .pre .1))
+    rw (c .note-for .ensures) (note-fits (t .args .entries .now) (t .args .parts .now) (t .args .d) (t .args .h) (t .pre .1))
 
 judged-at-requires : tie.Need-judged-at-requires
 judged-at-requires c κs =
     let t = c .before .before .before .before .before .before in
     let ps = t .args .parts .now in
     let note = step7 ps (t .args .d) (t .args .h) in
-    let e : c .with-note .result ≡ noted ps (t .args .d) note = c .with-note .ensures ∙ ap (noted ps (t .args .d)) (c .before .step7 .ensures) in
+    let e : c .with-note .result ≡ noted ps (t .args .d) note = c .with-note .ensures ∙ ap (noted ps (t .args .d)) (c .before .note-for .ensures) in
     let p : c .with-note .result .position ≡ t .args .d .position = ap (λ (x : TagDecoder). x .position) e ∙ noted-position ps (t .args .d) note in
     (subst GoodRecord (sym e) (noted-record ps (t .args .d) note (t .pre .0) (note-fits (t .args .entries .now) ps (t .args .d) (t .args .h) (t .pre .1))), t .pre .1, omega (arith, p, t .pre .2))
 
@@ -44,7 +44,7 @@ unfolding headerAt
 returns-2 c =
     let t = c .before .before .before .before .before .before .before in
     let allowed = sym (c .before .before .before .before .is-allowed .ensures) ∙ not-false _ (c .before .before .before .if1 .left) in
-    c .judged-at .ensures ∙ rw (c .before .with-note .ensures, c .before .before .step7 .ensures) (sym (cond-yes _ _ _ allowed))
+    c .judged-at .ensures ∙ rw (c .before .with-note .ensures, c .before .before .note-for .ensures) (sym (cond-yes _ _ _ allowed))
 
 pub header-at-spec : {M : Type 1} → statement M
 header-at-spec =
@@ -53,7 +53,7 @@ header-at-spec =
     is-allowed-requires
     step-on-requires
     returns
-    step7-requires
+    note-for-requires
     with-note-requires
     judged-at-requires
     returns-2)
