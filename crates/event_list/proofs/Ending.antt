@@ -44,8 +44,8 @@ use Rattle.tag_decoder.specs.Fits.{NoteFits, Fits}
 use Rattle.tag_decoder.proofs.Fitting.{decide-fits, note-settles}
 use Rattle.event_list.specs.BenchTable.{benchEntries, benchParts}
 use Rattle.event_list.specs.Reading.{called}
-use Rattle.event_list.proofs.Cuts.{more-stays}
-use Rattle.event_list.proofs.Settles.{Passed, passed}
+use Rattle.decoder_laws.proofs.Cuts.{more-stays}
+use Rattle.decoder_laws.proofs.Settles.{Passed, passed}
 
 no-way : _≡_ {A = ℕ} 0 1 → ⊥
 no-way e = omega arith

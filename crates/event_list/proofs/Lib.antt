@@ -1,14 +1,11 @@
 pub mod AnyReads
 pub mod Buffers
-pub mod Cuts
 pub mod Digits
 pub mod Ending
 pub mod Examples
 pub mod Filling
-pub mod Finishing
 pub mod Putting
 pub mod ReadBack
-pub mod Settles
 pub mod Taking
 pub mod Unique
 pub mod Views

@@ -18,8 +18,8 @@ use Rattle.decoder_state.specs.declared.types.Decoded.{Decoded}
 use Rattle.decoder_state.specs.declared.types.TagDecoder.{TagDecoder}
 use Rattle.event_list.specs.BenchTable.{benchEntries, benchParts}
 use Rattle.event_list.specs.Whole.{nextAnswer}
-use Rattle.event_list.proofs.Cuts.{octets-front, decode-local, asked-again}
-use Rattle.event_list.proofs.Finishing.{never-finished}
+use Rattle.decoder_laws.proofs.Cuts.{octets-front, decode-local, asked-again}
+use Rattle.decoder_laws.proofs.Finishing.{never-finished}
 
 -- ---- what the next answer is, by how much is still to come
 

@@ -35,7 +35,7 @@ use Rattle.decoder_state.specs.declared.types.Decoded.{Decoded}
 use Rattle.decoder_state.specs.declared.types.Note.{Note}
 use Rattle.decoder_state.specs.declared.types.Note.the-variants.{NoNote, Settle}
 use Rattle.decoder_state.specs.declared.types.TagDecoder.{TagDecoder}
-use Rattle.event_list.proofs.Settles.{Passed, passed, on-header, decided, note-is, settled-once}
+use Rattle.decoder_laws.proofs.Settles.{Passed, passed, on-header, decided, note-is, settled-once}
 
 no-answer : _≡_ {A = ℕ} 0 1 → ⊥
 no-answer e = omega arith
