@@ -39,7 +39,7 @@ seen d = record {
 abbrev pub look : TagDecoder → Look
 look d = record { good = goodState d; finished = d .finished; «waiting_count» = d .«waiting_count»; done = step3 d; seen = seen d }
 
--- n words that show the IDs of n masters
+-- n words that show the IDs of n masters; of the words past them nothing is said, and no test reads them
 pub record ShownIds (ids : List ℕ) (n : ℕ) (l : List OpenTag) : Type 0 where
   pub many : length l ≡ n
   pub ids-are : (i : ℕ) → i < n → getD ids i 0 ≡ getD l i noTag .id

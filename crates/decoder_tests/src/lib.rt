@@ -1,4 +1,4 @@
-// The tests of the steps of one call: what only reads the decoder's record. Each answers what the definition of its step says.
+// The tests of the steps of one call: what only reads the decoder's record, or what was seen of it. Each answers what the definition of its step says.
 
 pub mod checks;
 pub mod closing;

@@ -1,7 +1,7 @@
 // What is answered and taken where the record moves; the moves themselves stand in `decode`.
 
 ghost use mathlib.Core.Path.{_≡_};
-ghost use Prim.Native.Nat.{_-_, _≤_, _<_};
+ghost use Prim.Native.Nat.{_-_, min, _≤_, _<_};
 ghost use Rattle.decoder_state.specs.OneCall.{gives, refuse, noted, move};
 ghost use Rattle.decoder_state.specs.declared.types.Action.the-variants.{Close};
 ghost use Rattle.tag_decoder.specs.Fits.{NoteFits};
@@ -51,7 +51,7 @@ pub fn close(d: TagDecoder, k: usize) -> Decoded
 
 // The index of the last of so many; 0 for none, 31 for more than 32.
 pub fn top_of(count: usize) -> usize
-    ensures { λ r. ⌜ (r < 32) × (count ≤ 32 → r ≡ count - 1) ⌝ }
+    ensures { λ r. ⌜ r ≡ min (count - 1) 31 ⌝ }
 {
     if count == 0 {
         return 0;

@@ -87,7 +87,7 @@ mul-answer-to : tie.Need-mul-answer-to
 mul-answer-to c = search needs
 
 element-copy-out-answer-to-2 : tie.Need-element-copy-out-answer-to-2
-element-copy-out-answer-to-2 c = search needs
+element-copy-out-answer-to-2 c = omega arith
 
 answer-to-requires : tie.Need-answer-to-requires
 answer-to-requires c κs = search needs
@@ -148,7 +148,7 @@ ends c a s e h =
     let m = c .before .before .before .before .before in
     let top = c .before .before .before .before in
     rw (c .before .answer-to .ensures, c .taken-by .ensures, h, ← e)
-    (moved-parts (m .match .d) _ (top .top-of .result) _ (action-fits c) (top .top-of .ensures .1) ∙ rw (has-note m, decided (m .before)))
+    (moved-parts (m .match .d) _ (top .top-of .result) _ (action-fits c) (λ h. omega (arith, top .top-of .ensures)) ∙ rw (has-note m, decided (m .before)))
 
 returns : tie.Need-returns
 unfolding move
