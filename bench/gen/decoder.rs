@@ -1,14 +1,12 @@
 //! Decoder calls.
 
-use crate::player::{Outcome, Player};
+use crate::limits::MOST_OPEN;
+use crate::player::Player;
 use crate::prng::Prng;
-use crate::table::of_document;
 use crate::{payloads, records, sessions, short};
 use oracle::fields::bytes;
 use std::io;
 use std::path::Path;
-
-pub const MOST_OPEN: usize = 32;
 
 pub fn generate(folder: &Path, seed: u64) -> io::Result<()> {
     let mut prng = Prng::new(seed ^ 2);
@@ -137,32 +135,11 @@ const NAMED: &[(&str, &str)] = &[
 
 fn named(folder: &Path) -> io::Result<()> {
     let mut player = Player::create(folder, "decoder-named")?;
-    lend_document_table(&mut player)?;
+    player.lend_document_table()?;
     for (stream, allowances) in NAMED {
         player.call("new")?;
         player.call(&format!("allow {allowances}"))?;
-        let stream = bytes(stream).expect("HEX");
-        to_the_end(&mut player, stream, true)?;
+        player.to_the_end(bytes(stream).expect("HEX"), true)?;
     }
     player.finish()
-}
-
-pub fn lend_document_table(player: &mut Player) -> io::Result<()> {
-    player.call(&of_document().call(&mut Prng::new(0))).map(drop)
-}
-
-/// Decodes, and at need more ends the input, until something is refused or all is finished.
-pub fn to_the_end(player: &mut Player, mut unread: Vec<u8>, with_state: bool) -> io::Result<()> {
-    let mut name = "decode";
-    loop {
-        let outcome = player.lend(name, &mut unread)?;
-        if with_state {
-            player.call("st")?;
-        }
-        match outcome {
-            Outcome::Event => {}
-            Outcome::NeedMore => name = "eof",
-            _ => return Ok(()),
-        }
-    }
 }

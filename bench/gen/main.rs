@@ -1,19 +1,26 @@
 //! Usage: gen FOLDER [SEED]
 //! Writes the bench's scripts of calls into FOLDER. The same seed gives the same scripts.
 
-mod decoder;
+// A module uses only what stands in a group above its own.
+mod limits;
+mod prng;
+mod script;
+mod strings;
+
+mod table;
+
+mod player;
+mod stream;
+
 mod lines;
 mod numbers;
 mod payloads;
-mod player;
-mod prng;
 mod records;
-mod script;
 mod sessions;
 mod short;
-mod stream;
-mod table;
 mod tables;
+
+mod decoder;
 
 use std::path::PathBuf;
 use std::{env, io};

@@ -1,10 +1,9 @@
 //! Payloads: texts, numbers and floats.
 
-use crate::decoder::lend_document_table;
 use crate::player::Player;
 use crate::prng::Prng;
-use crate::short::strings;
 use crate::stream::{character, damage, id_bytes, size_bytes, value, Faults};
+use crate::strings::strings;
 use crate::table::{FLOAT, INTEGER, UNSIGNED};
 use oracle::fields::hex;
 use std::io;
@@ -13,7 +12,8 @@ use std::path::Path;
 const TEXTS: usize = 20_000;
 const VALUES: usize = 20_000;
 
-/// RFC 3629's examples (section 7), and each limit of the ranges of section 4 from both sides, cut characters among them.
+/// RFC 3629's examples (section 7), and each limit of the ranges of section 4 from both sides, cut characters among
+/// them.
 #[rustfmt::skip]
 const NAMED_TEXTS: [&[u8]; 60] = [
     b"", b"A", b"\x00", b"\x7F",
@@ -38,7 +38,7 @@ pub fn generate(folder: &Path, prng: &mut Prng) -> io::Result<()> {
 
 fn named_texts(folder: &Path) -> io::Result<()> {
     let mut player = Player::create(folder, "decoder-named-texts")?;
-    lend_document_table(&mut player)?;
+    player.lend_document_table()?;
     for text in NAMED_TEXTS {
         player.call("new")?;
         one_text(&mut player, text)?;
@@ -52,10 +52,11 @@ fn named_texts(folder: &Path) -> io::Result<()> {
     player.finish()
 }
 
-/// Texts: every one and two bytes, every three of the limits of RFC 3629's ranges, the limits of longer characters, and characters at every place of longer texts.
+/// Texts: every one and two bytes, every three of the limits of RFC 3629's ranges, the limits of longer characters, and
+/// characters at every place of longer texts.
 fn texts(folder: &Path, prng: &mut Prng) -> io::Result<()> {
     let mut player = Player::create(folder, "decoder-text")?;
-    lend_document_table(&mut player)?;
+    player.lend_document_table()?;
     let edges = [0x00, 0x7F, 0x80, 0x8F, 0x90, 0x9F, 0xA0, 0xBF, 0xC0, 0xFF];
     let lead = [
         0xDF, 0xE0, 0xE1, 0xEC, 0xED, 0xEE, 0xEF, 0xF0, 0xF1, 0xF3, 0xF4, 0xF5, 0xF8, 0xFF,
@@ -135,7 +136,7 @@ fn plain_but_at(byte: u8, place: usize, length: usize) -> Vec<u8> {
 
 fn values(folder: &Path, prng: &mut Prng) -> io::Result<()> {
     let mut player = Player::create(folder, "decoder-values")?;
-    lend_document_table(&mut player)?;
+    player.lend_document_table()?;
     let faults = Faults { one_in: 6 };
     for _ in 0..VALUES {
         let (id, kind) = prng.pick(&[(0xA2, UNSIGNED), (0xA5, INTEGER), (0xA6, FLOAT)]);

@@ -1,6 +1,9 @@
-//! Writes calls into a script and has the Rust answer them, since what the next call lends depends on what the last one took.
+//! Writes calls into a script and has the Rust answer them, since what the next call lends depends on what the last
+//! one took.
 
+use crate::prng::Prng;
 use crate::script::Script;
+use crate::table::of_document;
 use oracle::fields::hex;
 use oracle::Oracle;
 use std::io;
@@ -58,6 +61,26 @@ impl Player {
             .map_or(0, |taken| taken.parse().unwrap_or(0));
         unread.drain(..taken);
         Ok(outcome)
+    }
+
+    pub fn lend_document_table(&mut self) -> io::Result<()> {
+        self.call(&of_document().call(&mut Prng::new(0))).map(drop)
+    }
+
+    /// Decodes, and at need more ends the input, until something is refused or all is finished.
+    pub fn to_the_end(&mut self, mut unread: Vec<u8>, with_state: bool) -> io::Result<()> {
+        let mut name = "decode";
+        loop {
+            let outcome = self.lend(name, &mut unread)?;
+            if with_state {
+                self.call("st")?;
+            }
+            match outcome {
+                Outcome::Event => {}
+                Outcome::NeedMore => name = "eof",
+                _ => return Ok(()),
+            }
+        }
     }
 
     pub fn finish(self) -> io::Result<()> {

@@ -1,20 +1,20 @@
 //! Calls on records made by hand, at and over every limit of the state.
 
-use crate::decoder::{lend_document_table, MOST_OPEN};
+use crate::limits::{GREATEST_POSITION, MOST_OPEN};
 use crate::player::Player;
 use crate::prng::Prng;
+use crate::script::listed;
 use crate::stream::{document, Faults};
 use crate::table::{any_id, ill_formed, of_document, Part, Table};
 use std::io;
 use std::path::Path;
 
 const RECORDS: usize = 40_000;
-const GREATEST_POSITION: u64 = 1 << 62;
 
 pub fn generate(folder: &Path, prng: &mut Prng) -> io::Result<()> {
     let mut player = Player::create(folder, "decoder-records")?;
     let mut table = of_document();
-    lend_document_table(&mut player)?;
+    player.lend_document_table()?;
     for turn in 0..RECORDS {
         if turn % 16 == 15 {
             table = if prng.below(3) == 0 {
@@ -61,8 +61,8 @@ impl Hand {
             self.position,
             u8::from(self.is_settled),
             u8::from(self.is_finished),
-            listed(&self.open),
-            listed(&self.waiting),
+            listed(self.open.clone()),
+            listed(self.waiting.clone()),
         )
     }
 
@@ -70,13 +70,6 @@ impl Hand {
     fn is_shown(&self) -> bool {
         self.open.len() <= MOST_OPEN && self.waiting.len() <= MOST_OPEN
     }
-}
-
-fn listed(items: &[String]) -> String {
-    if items.is_empty() {
-        return "-".to_string();
-    }
-    items.join(",")
 }
 
 fn random_record(prng: &mut Prng, table: &Table) -> Hand {

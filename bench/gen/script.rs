@@ -27,3 +27,12 @@ impl Script {
         self.file.flush()
     }
 }
+
+/// A list as a call has it: the items with commas between them, `-` for none.
+pub fn listed(items: impl IntoIterator<Item = String>) -> String {
+    let items: Vec<String> = items.into_iter().collect();
+    if items.is_empty() {
+        return "-".to_string();
+    }
+    items.join(",")
+}

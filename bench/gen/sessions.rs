@@ -1,6 +1,6 @@
 //! Sessions over streams that come in pieces.
 
-use crate::decoder::MOST_OPEN;
+use crate::limits::MOST_OPEN;
 use crate::player::{Outcome, Player};
 use crate::prng::Prng;
 use crate::stream::{damage, document, nested, Faults};

@@ -1,7 +1,7 @@
 //! Every short stream of telling bytes or elements.
 
-use crate::decoder::{lend_document_table, to_the_end};
 use crate::player::Player;
+use crate::strings::strings;
 use oracle::fields::bytes;
 use std::io;
 use std::path::Path;
@@ -18,7 +18,7 @@ fn short_bytes(folder: &Path) -> io::Result<()> {
     ];
     let few = [0x01, 0x4E, 0x80, 0x82, 0xA1, 0xA2, 0xFF];
     let mut player = Player::create(folder, "decoder-bytes")?;
-    lend_document_table(&mut player)?;
+    player.lend_document_table()?;
     for stream in strings(&many, 0, 4) {
         from_fresh(&mut player, 0, stream)?;
     }
@@ -54,7 +54,7 @@ fn from_midway(player: &mut Player, record: &str, stream: Vec<u8>) -> io::Result
     player.lend("recover", &mut stream.clone())?;
     player.call("st")?;
     player.call(&format!("set {record}"))?;
-    to_the_end(player, stream, false)?;
+    player.to_the_end(stream, false)?;
     player.call("st").map(drop)
 }
 
@@ -63,19 +63,8 @@ fn from_fresh(player: &mut Player, allowances: u64, stream: Vec<u8>) -> io::Resu
     if allowances > 0 {
         player.call(&format!("allow {allowances}"))?;
     }
-    to_the_end(player, stream, false)?;
+    player.to_the_end(stream, false)?;
     player.call("st").map(drop)
-}
-
-pub fn strings(items: &[u8], shortest: u32, longest: u32) -> impl Iterator<Item = Vec<u8>> + '_ {
-    (shortest..=longest).flat_map(move |length| {
-        let base = items.len();
-        (0..base.pow(length)).map(move |number| {
-            (0..length)
-                .map(|place| items[number / base.pow(place) % base])
-                .collect()
-        })
-    })
 }
 
 /// Every row of telling elements, whole ones and pieces.
@@ -89,7 +78,7 @@ fn short_elements(folder: &Path) -> io::Result<()> {
     .collect();
     let places: Vec<u8> = (0..elements.len() as u8).collect();
     let mut player = Player::create(folder, "decoder-elements")?;
-    lend_document_table(&mut player)?;
+    player.lend_document_table()?;
     for allowances in 0..8 {
         let longest = if allowances == 0 { 4 } else { 2 };
         for row in strings(&places, 1, longest) {

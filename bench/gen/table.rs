@@ -1,6 +1,8 @@
 //! Tables, good and ill-formed ones.
 
+use crate::limits::{GREATEST_BOUND, MOST_ENTRIES, MOST_PARTS};
 use crate::prng::Prng;
+use crate::script::listed;
 
 pub const MASTER: u64 = 0;
 pub const UNSIGNED: u64 = 1;
@@ -8,10 +10,6 @@ pub const INTEGER: u64 = 2;
 pub const TEXT: u64 = 3;
 pub const BINARY: u64 = 4;
 pub const FLOAT: u64 = 5;
-
-pub const MOST_PARTS: usize = 16;
-pub const MOST_ENTRIES: usize = 64;
-const GREATEST_BOUND: u64 = 65_536;
 
 /// A part of a path. A Global's bounds are the table's words: 0 for none, n + 1 for n.
 #[derive(Clone, Copy, PartialEq)]
@@ -42,16 +40,12 @@ pub struct Words {
 
 impl Words {
     pub fn call(&self) -> String {
-        format!("table {} {}", listed(&self.entries), listed(&self.parts))
+        format!("table {} {}", hex_words(&self.entries), hex_words(&self.parts))
     }
 }
 
-fn listed(words: &[u64]) -> String {
-    if words.is_empty() {
-        return "-".to_string();
-    }
-    let words: Vec<String> = words.iter().map(|word| format!("{word:X}")).collect();
-    words.join(",")
+fn hex_words(words: &[u64]) -> String {
+    listed(words.iter().map(|word| format!("{word:X}")))
 }
 
 impl Table {

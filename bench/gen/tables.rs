@@ -1,9 +1,11 @@
 //! Calls on tables: the shape, the check, which ID ends which master, the path walk.
 
+use crate::limits::{MOST_ENTRIES, MOST_OPEN};
 use crate::prng::Prng;
-use crate::script::Script;
+use crate::script::{listed, Script};
+use crate::strings::strings;
 use crate::table::{any_id, at_a_limit_of_shape, ill_formed, largest, of_document, well_formed};
-use crate::table::{Entry, Part, Table, ANYWHERE, BINARY, MASTER, MOST_ENTRIES};
+use crate::table::{Entry, Part, Table, ANYWHERE, BINARY, MASTER};
 use std::io;
 use std::path::Path;
 
@@ -13,7 +15,6 @@ const LARGEST: usize = 60;
 const AT_A_LIMIT: usize = 4_000;
 const ENDED_CALLS: usize = 16;
 const PATH_CALLS: usize = 24;
-const MOST_OPEN: usize = 32;
 /// As many words as a line can write beside the other list's `-`.
 const MOST_WORDS: usize = 8_188;
 const TELLING_PARTS: [Part; 10] = [
@@ -139,7 +140,7 @@ fn about(script: &mut Script, prng: &mut Prng, table: &Table) -> io::Result<()> 
     for _ in 0..PATH_CALLS {
         let id = table.some_id(prng);
         let stack = stack_for(prng, table, id);
-        script.line(format!("path {id:X} {}", listed(&stack)))?;
+        script.line(format!("path {id:X} {}", stack_field(&stack)))?;
     }
     Ok(())
 }
@@ -167,8 +168,8 @@ fn shapes(folder: &Path, prng: &mut Prng) -> io::Result<()> {
 /// Every path of up to three telling parts against every stack of up to four of two masters.
 fn walks(folder: &Path, prng: &mut Prng) -> io::Result<()> {
     let mut script = Script::create(folder, "table-walks")?;
-    let stacks = strings(&[0xA1, 0xA2], 4);
-    for paths in strings(&TELLING_PARTS, 3).chunks(MOST_ENTRIES - 2) {
+    let stacks = lists(&[0xA1, 0xA2], 4);
+    for paths in lists(&TELLING_PARTS, 3).chunks(MOST_ENTRIES - 2) {
         let ids = 0x4000..0x4000 + paths.len() as u64;
         let masters = [0xA1, 0xA2].map(|id| Entry {
             id,
@@ -188,28 +189,18 @@ fn walks(folder: &Path, prng: &mut Prng) -> io::Result<()> {
             script.lines(
                 stacks
                     .iter()
-                    .map(|stack| format!("path {id:X} {}", listed(&known(stack)))),
+                    .map(|stack| format!("path {id:X} {}", stack_field(&known(stack)))),
             )?;
         }
     }
     script.finish()
 }
 
-/// Every list of at most so many of the items.
-fn strings<T: Copy>(items: &[T], longest: usize) -> Vec<Vec<T>> {
-    let mut all = vec![Vec::new()];
-    let mut last = all.clone();
-    for _ in 0..longest {
-        let longer = |list: &Vec<T>| {
-            items
-                .iter()
-                .map(|item| [&list[..], &[*item]].concat())
-                .collect::<Vec<Vec<T>>>()
-        };
-        last = last.iter().flat_map(longer).collect();
-        all.extend(last.clone());
-    }
-    all
+/// Every list of at most so many of the items, the shorter ones first; the last place changes fastest.
+fn lists<T: Copy>(items: &[T], longest: u32) -> Vec<Vec<T>> {
+    strings(items, 0, longest)
+        .map(|string| string.into_iter().rev().collect())
+        .collect()
 }
 
 fn known(ids: &[u64]) -> Vec<Open> {
@@ -284,13 +275,10 @@ fn bent(prng: &mut Prng, table: &Table, mut ids: Vec<u64>) -> Vec<u64> {
     ids
 }
 
-fn listed(stack: &[Open]) -> String {
-    if stack.is_empty() {
-        return "-".to_string();
-    }
-    let items: Vec<String> = stack
-        .iter()
-        .map(|open| format!("{:X}:{}", open.id, if open.is_known { "k" } else { "u" }))
-        .collect();
-    items.join(",")
+fn stack_field(stack: &[Open]) -> String {
+    listed(
+        stack
+            .iter()
+            .map(|open| format!("{:X}:{}", open.id, if open.is_known { "k" } else { "u" })),
+    )
 }
