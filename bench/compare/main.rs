@@ -1,6 +1,7 @@
 //! Usage: compare [--kinds] FOLDER NAME..
-//! Compares FOLDER/NAME.ours with FOLDER/NAME.rust, the answers to FOLDER/NAME.calls, line by line, and prints counts; with --kinds also
-//! how often each kind of call had each kind of answer. The result is 1 if a difference is not a listed one.
+//! Compares FOLDER/NAME.ours with FOLDER/NAME.rust, the answers to FOLDER/NAME.calls, line by line, and prints counts;
+//! with --kinds also how often each kind of call had each kind of answer. The result is 1 if a difference is not a
+//! listed one.
 
 use judging::calls::{answers, calls};
 use judging::listed::{Expected, Listing};

@@ -1,6 +1,6 @@
 //! Usage: sample FOLDER CALLS ANSWERS NAME..
-//! Picks a telling sample of the calls in FOLDER/NAME.calls and writes it to CALLS, and what ours must answer to ANSWERS.
-//! A short script is taken whole. Of the others the same number is taken of each class of calls.
+//! Picks a telling sample of the calls in FOLDER/NAME.calls and writes it to CALLS, and what ours must answer to
+//! ANSWERS. A short script is taken whole. Of the others the same number is taken of each class of calls.
 
 mod decoder_sample;
 mod number_class;

@@ -107,7 +107,8 @@ fn ending(table: &Table, master: &str, id: &str) -> Option<String> {
     Some(facts.iter().map(|fact| if *fact { 'y' } else { 'n' }).collect())
 }
 
-/// The steps of the path walk, a letter for each and one for a row of the same; and whether a master of Unknown size was passed.
+/// The steps of the path walk, a letter for each and one for a row of the same; and whether a master of Unknown size
+/// was passed.
 fn walk(table: &Table, id: &str, stack: &str) -> Option<String> {
     let stack = list(stack, |item| {
         let (id, size) = item.split_once(':')?;

@@ -9,7 +9,8 @@ use std::path::Path;
 const OF_EACH_CLASS: usize = 2;
 const LONGEST_SAMPLED: usize = 2_000;
 
-/// The calls on one table, first the one that lends it; before a script's first table only those that ask the empty one.
+/// The calls on one table, first the one that lends it; before a script's first table only those that ask the empty
+/// one.
 type Group = Vec<Answered>;
 
 pub fn sample(folder: &Path, names: &[String]) -> io::Result<Vec<Answered>> {

@@ -1,4 +1,5 @@
-//! How the fuzzer's bytes are read: a table, the settings, how the stream comes and what happens after a refusal; all that is left is the stream.
+//! How the fuzzer's bytes are read: a table, the settings, how the stream comes and what happens after a refusal; all
+//! that is left is the stream.
 
 const DOCUMENT: &str = "table 4E01,0,0,0,A1,0,0,1,A2,1,0,2,A3,3,0,2,A4,4,0,2,A5,2,0,2,A6,5,0,2,EC,4,2,1 0,4E01,0,0,A1,0,1,0,0";
 const IDS: [u64; 16] = [

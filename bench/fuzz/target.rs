@@ -1,5 +1,5 @@
-//! What the fuzzer calls: bytes become a session of decoder calls, which the Rust answers here and ours from the script of its calls. A difference that is
-//! not a listed one ends the program, and so does a call that does not return.
+//! What the fuzzer calls: bytes become a session of decoder calls, which the Rust answers here and ours from the script
+//! of its calls. A difference that is not a listed one ends the program, and so does a call that does not return.
 
 mod reading;
 

@@ -1,5 +1,5 @@
-// The fields of the decoder and the steps that only its own module can reach, for the driver. It is included as a module of
-// the decoder's unchanged file.
+// The fields of the decoder and the steps that only its own module can reach, for the driver. It is included as a
+// module of the decoder's unchanged file.
 
 use super::{OpenTag, PositionedTag, TagDecoder};
 use crate::specs::{EbmlSpecification, EbmlTag};

@@ -1,4 +1,5 @@
-//! Times by the least of many repetitions, ours and the Rust's in turns, so that what disturbs the machine disturbs both.
+//! Times by the least of many repetitions, ours and the Rust's in turns, so that what disturbs the machine disturbs
+//! both.
 
 use std::time::{Duration, Instant};
 

@@ -1,6 +1,7 @@
 //! Usage: speed [SECONDS [PART..]]   or   speed once SIDE INPUT COUNT
-//! Measures our decoder, text check and number routines beside the Rust's, SECONDS on each row (0.4 if not given), and prints tables. PART is one of
-//! streams, growth, texts, numbers. `once` decodes one input COUNT times on one side, for a profiler.
+//! Measures our decoder, text check and number routines beside the Rust's, SECONDS on each row (0.4 if not given), and
+//! prints tables. PART is one of streams, growth, texts, numbers. `once` decodes one input COUNT times on one side, for
+//! a profiler.
 
 mod clock;
 mod inputs;

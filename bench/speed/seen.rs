@@ -1,4 +1,5 @@
-//! What a decoder saw of a stream: the count of its events and a sum in which every number of each counts, as `bench_calls` makes it.
+//! What a decoder saw of a stream: the count of its events and a sum in which every number of each counts, as
+//! `bench_calls` makes it.
 
 #[derive(Clone, Copy, Debug, Default, PartialEq)]
 pub struct Seen {

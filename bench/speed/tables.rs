@@ -1,4 +1,5 @@
-//! The tables, each as a specification of the Rust (a `match`, as the crate's own macro makes it) and as the words that ours is lent.
+//! The tables, each as a specification of the Rust (a `match`, as the crate's own macro makes it) and as the words that
+//! ours is lent.
 
 use ebml_iterable::specs::{PathPart, TagDataType};
 

@@ -1,4 +1,5 @@
-// A script of calls answered as the program `replay` answers it, from lent bytes to lent bytes: a driver asks many scripts without starting a program.
+// A script of calls answered as the program `replay` answers it, from lent bytes to lent bytes: a driver asks many
+// scripts without starting a program.
 
 ghost use mathlib.Core.Path.{_≡_};
 ghost use Prim.Native.Nat.{_≤_};
@@ -49,7 +50,8 @@ fn answer_lines(script: &[u8], entries: &mut [u64], parts: &mut [u64], out: &mut
     filled
 }
 
-// Answers every line of a script, the first on a fresh session, and gives the count of bytes of `out` that are filled. The lent words hold the table.
+// Answers every line of a script, the first on a fresh session, and gives the count of bytes of `out` that are filled.
+// The lent words hold the table.
 #[no_mangle]
 pub extern "C" fn bench_script(
     script: &[u8],

@@ -1,2 +1,4 @@
-pub mod Judged
-pub mod Looking
+pub mod Fields
+pub mod Tops
+pub mod GoodHeaders
+pub mod SettledView

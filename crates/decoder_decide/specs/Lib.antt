@@ -1,1 +1,3 @@
-pub mod Good
+pub mod Bounds
+pub mod Parts
+pub mod GoodViews

@@ -1,4 +1,5 @@
--- Document 01, "Numbers": "The gateway is C and calls these routines directly." The result number and the lent bytes of each answer.
+-- Document 01, "Numbers": "The gateway is C and calls these routines directly." The result number and the lent bytes of
+-- each answer.
 use Prim.Native.Nat.{ℕ, _+_}
 use mathlib.Core.Bool.{Bool, cond}
 use mathlib.Core.List.{List, _++_}
@@ -41,6 +42,7 @@ readOut read.NeedMore out = (0, out)
 readOut (read.Refused e) out = (refusalOf e, out)
 readOut (read.Vint v L) out = valueOut L v out
 
+-- the same of a signed vint
 abbrev pub readSignedOut : ReadSignedVint → List ℕ → ℕ × List ℕ
 readSignedOut signed.NeedMore out = (0, out)
 readSignedOut (signed.Refused e) out = (refusalOf e, out)
@@ -51,6 +53,7 @@ abbrev pub codeOf : Written → ℕ
 codeOf (written.Length n) = n
 codeOf (written.Refused e) = refusalOf e
 
+-- what a writer answered, with the bytes that it left
 abbrev pub writtenOut : Written × List ℕ → ℕ × List ℕ
 writtenOut p = (codeOf (p .0), p .1)
 
@@ -58,20 +61,24 @@ writtenOut p = (codeOf (p .0), p .1)
 abbrev pub yesNo : Bool → ℕ
 yesNo b = cond b 1 0
 
--- the result where the value was handed to the lent bytes
-abbrev pub resultOf : ℕ → Written → ℕ
-resultOf result (written.Length n) = result
-resultOf result (written.Refused e) = refusalOf e
-
 -- "and 8 for a conversion"
 abbrev pub unsignedOut : ArrToU64 → List ℕ → ℕ × List ℕ
 unsignedOut (unsigned.Value v) out = valueOut 8 v out
 unsignedOut (unsigned.Refused e) out = (refusalOf e, out)
 
+-- the same of a signed number
 abbrev pub integerOut : ArrToI64 → List ℕ → ℕ × List ℕ
 integerOut (integer.Value z) out = signedOut 8 z out
 integerOut (integer.Refused e) out = (refusalOf e, out)
 
+-- the same of a float's 64 bits
 abbrev pub floatOut : ArrToF64 → List ℕ → ℕ × List ℕ
 floatOut (float.Bits v) out = valueOut 8 v out
 floatOut (float.Refused e) out = (refusalOf e, out)
+
+-- ---- what a helper's contract uses
+
+-- the result where the value was handed to the lent bytes
+abbrev pub resultOf : ℕ → Written → ℕ
+resultOf result (written.Length n) = result
+resultOf result (written.Refused e) = refusalOf e

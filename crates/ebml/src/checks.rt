@@ -7,6 +7,7 @@ use table::check::check_table;
 use table::check::rule_number;
 use table::types::Checked;
 
+// 0 for a table that passed, else its lowest fault or its bad shape.
 #[no_mangle]
 pub extern "C" fn ebml_check_table(entries: &[u64], parts: &[u64]) -> u64
     ensures { λ r. ⌜ r ≡ checkedOut (checkTable (now (entries .entry)) (now (parts .entry))) ⌝ }

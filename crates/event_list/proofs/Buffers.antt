@@ -1,24 +1,25 @@
--- Laws of the buffer and of a turn, over plain values. Assumes nothing.
-use Prim.Native.Nat.{ℕ, zero, suc, _+_, _-_, _≤_, _<_, min}
+-- Laws of the buffer and of one call on it, over plain values. Assumes nothing.
+use Prim.Native.Nat.{ℕ, _+_, _-_, _<_, min}
 use mathlib.Core.Path.{_≡_, refl, sym, ap, _∙_}
 use mathlib.Core.Bool.{Bool, true, false, false≢true}
-use mathlib.Core.List.{List, [], _∷_, _++_}
+use mathlib.Core.List.{List, _++_}
 use native.Mathlib.Omega.{arith}
-use borrow.Author.Tests.{lt-ltb, le-ltb, eq-eqb, ne-eqb}
+use borrow.Author.Tests.{le-ltb, ne-eqb}
 use lib.IntN.{ℤ, pos, negsuc, natAbs}
 use lib.ListN.{length, take, drop, getD, set, length-drop}
 use lib.Seq.{length-take-le, getD-append-add, getD-drop}
 use lib.Signed.{ltZ}
 use Rattle.tools.specs.Answers.{Gives}
 use Rattle.tools.proofs.BigEndian.{over-more}
-use Rattle.decoder_state.specs.OneCall.{decode, decodeEof}
-use Rattle.decoder_state.specs.declared.types.Decoded.{Decoded}
-use Rattle.decoder_state.specs.declared.types.TagDecoder.{TagDecoder}
-use Rattle.event_list.specs.BenchTable.{benchEntries, benchParts}
-use Rattle.event_list.specs.Reading.{listing, unread, called, nextOf, turnOf, turn, kept, filledBy, afterRead}
+use Rattle.decoder_rules.specs.Moving.{decode}
+use Rattle.decoder_rules.specs.EndOfInput.{decodeEof}
+use Rattle.decoder_rules.specs.declared.types.Decoded.{Decoded}
+use Rattle.decoder_rules.specs.declared.types.TagDecoder.{TagDecoder}
+use Rattle.table.specs.BenchTable.{benchEntries, benchParts}
+use Rattle.event_list.specs.Reading.{listing, unread, called, nextOf, callOnce, unreadMovedToFront, filledBy, afterRead}
 use Rattle.event_list.specs.declared.types.Listing.{Listing}
 use Rattle.event_list.specs.declared.types.Next.{Next}
-use Rattle.event_list.specs.declared.types.Turn.{Turn}
+use Rattle.event_list.specs.declared.types.CallResult.{CallResult}
 
 -- ---- a call
 
@@ -32,13 +33,13 @@ pub called-on : {over : Bool} (d : TagDecoder) (s : List ℕ) {es ps : List ℕ}
 unfolding called
 called-on d s o e p h = rw o (rw (e, p) at h)
 
--- ---- a turn
+-- ---- one call, and what is to be done after it
 
-pub turn-is : (l : Listing) (b : List ℕ) {u f : ℕ} {r : Decoded} {n : Next} → u ≡ min (l .upto) (length b) → f ≡ min (l .from) u
+pub call-once-is : (l : Listing) (b : List ℕ) {u f : ℕ} {r : Decoded} {n : Next} → u ≡ min (l .upto) (length b) → f ≡ min (l .from) u
     → r ≡ called (l .ended) (l .decoder) (take (u - f) (drop f b)) → n ≡ nextOf (r .answer) (u - f) (length b)
-    → _≡_ {A = Turn} (record { answer = r .answer; next = n; listing = listing (r .state) (f + r .taken) u (l .ended) }) (turn l b)
-unfolding turn unread
-turn-is l b eu ef er en = rw (en, er, ef, eu)
+    → _≡_ {A = CallResult} (record { answer = r .answer; next = n; listing = listing (r .state) (f + r .taken) u (l .ended) }) (callOnce l b)
+unfolding callOnce unread
+call-once-is l b eu ef er en = rw (en, er, ef, eu)
 
 -- ---- before a read
 
@@ -58,10 +59,10 @@ shift-more s from i h =
     ∙ sym (getD-drop from s i 0) in
     rw v (over-more t s i n (omega arith))
 
-pub kept-is : (l : Listing) (b : List ℕ) {u f : ℕ} {o : List ℕ} → u ≡ min (l .upto) (length b) → f ≡ min (l .from) u
-    → o ≡ take (u - f) (drop f b) ++ drop (u - f) b → Gives (listing (l .decoder) 0 (u - f) (l .ended)) o (kept l b)
-unfolding kept unread
-kept-is l b eu ef eo = rw (eo, ef, eu) (record { answer = refl; bytes = refl })
+pub moved-to-front-is : (l : Listing) (b : List ℕ) {u f : ℕ} {o : List ℕ} → u ≡ min (l .upto) (length b) → f ≡ min (l .from) u
+    → o ≡ take (u - f) (drop f b) ++ drop (u - f) b → Gives (listing (l .decoder) 0 (u - f) (l .ended)) o (unreadMovedToFront l b)
+unfolding unreadMovedToFront unread
+moved-to-front-is l b eu ef eo = rw (eo, ef, eu) (record { answer = refl; bytes = refl })
 
 -- ---- after a read
 

@@ -1,56 +1,47 @@
--- Worked examples, computed from the definitions: the list of document 01's D1, with the input whole and in pieces, in a buffer that holds it and in smaller ones; an
--- element of exactly the buffer's size, and one that is a byte larger; and the ends of numbers. Assumes nothing.
-use Prim.Native.Nat.{ℕ, zero, suc, _+_, _-_, _^_}
+-- Worked examples, computed from the definitions: the list of document 01's D1, with the input whole and in pieces, in
+-- a buffer that holds it and in smaller ones; an element of exactly the buffer's size, and one that is a byte larger;
+-- and the ends of numbers. Assumes nothing.
+use Prim.Native.Nat.{ℕ, zero, suc, _-_, _^_}
 use mathlib.Core.Path.{_≡_, refl}
 use mathlib.Core.Bool.{Bool, true, false, cond}
-use mathlib.Core.List.{List, [], _∷_, _++_, map, reverse}
-use lib.Count.{leadingZeros}
-use lib.IntN.{ℤ, pos, negsuc}
-use lib.ListN.{length, take, drop, replicate}
-use Rattle.tools.specs.Bytes.{beFrom}
-use Rattle.tools.specs.Vint.{readVint}
-use Rattle.tools.specs.Integer.{arrToU64}
-use Rattle.utf8.specs.Rfc3629.{fits, rows, firstFit, textAfter}
-use Rattle.table.specs.Lists.{every, any}
-use Rattle.table.specs.Shape.{goodPart, goodParts, goodEntry, goodEntries, goodShape}
-use Rattle.table.specs.Check.{onlyIds}
-use Rattle.table.specs.Table.{threes, fours, boundOf, partOf, sameBound, samePart, samePath, kindOf, isMaster, isTyped, clipped, entryOf, tableOf, entryFor}
-use Rattle.spec_util.specs.Ended.{isIdOf, hasId, isParent, isSibling, isTypedRoot, isEndedBy}
-use Rattle.spec_util.specs.Walk.{overMax, underMin, isIdAt, walkGlobal, walkAt, walkPart, unknownAndEnded, walkMaster, minMet, walkEnd, goOn, walkFrom, validateTagPath}
-use Rattle.tag_parse.specs.Header.{readTagId, sizeOf, tooLong, sizedBy, sized, afterId, readHeader}
-use Rattle.tag_parse.specs.Payload.{readData}
-use Rattle.decoder_state.specs.State.{endFor, withOpen, withWaiting, withNotes, settledTo, opened, closedTo, handedOut}
-use Rattle.decoder_state.specs.OneCall.{goodOpen, goodState, refused12, refused13, isDone, firstIndex, closing, noted, step8, reaches, step9, validHeader, endedTops, element, elementOf, step11, steps10-11, steps8-11, steps6-11, step5, steps4-11, steps2-11, decide, move, apply, cutBytes, isCut, finish, closeAll, ended, decodeEof}
+use mathlib.Core.List.{List, [], _∷_, _++_, map}
+use lib.IntN.{negsuc}
+use lib.ListN.{take, drop, replicate}
+use Rattle.decoder_rules.proofs.Computing.{rulesCompute}
+use Rattle.basics.specs.Lists.{every}
 use Rattle.event_list.specs.Line as lines
-use Rattle.event_list.specs.Numeral.{digits, places, hex, hex16, decimal, signedDecimal}
-use Rattle.event_list.specs.Reading.{started, unread, called, turn, kept, afterRead}
-use Rattle.event_list.specs.Run.{Stage, filled}
-use Rattle.event_list.specs.declared.types.Listing.{Listing}
+use Rattle.numerals.specs.Numeral.{digits, places, hex, hex16, decimal, signedDecimal}
+use Rattle.event_list.specs.Reading.{started, unread, called, callOnce, unreadMovedToFront, afterRead}
+use Rattle.event_list.specs.Run.{Stage, refilled}
 use Rattle.event_list.specs.declared.types.Next.{Next}
 use Rattle.event_list.specs.declared.types.Next.the-variants.{Line, Last, Read}
-use Rattle.event_list.specs.declared.types.Turn.{Turn}
+use Rattle.event_list.specs.declared.types.CallResult.{CallResult}
 
 -- ---- a run of the program, computed: at most n steps of it
 
+-- whether nothing is done after it
 abbrev pub isLast : Next → Bool
 isLast Line = false
 isLast Last = true
 isLast Read = false
 
-abbrev pub textOf : Next → Turn → List ℕ
+-- what is printed after a call
+abbrev pub textOf : Next → CallResult → List ℕ
 textOf Line t = lines.line (t .answer) (t .listing .decoder .position)
 textOf Last t = lines.line (t .answer) (t .listing .decoder .position)
 textOf Read t = []
 
-abbrev pub after : Next → Turn → Stage → Stage
+-- where the program stands then
+abbrev pub after : Next → CallResult → Stage → Stage
 after Line t s = record { at = t .listing; buffer = s .buffer; pieces = s .pieces }
 after Last t s = record { at = t .listing; buffer = s .buffer; pieces = s .pieces }
-after Read t s = filled (kept (t .listing) (s .buffer)) (s .pieces)
+after Read t s = refilled (unreadMovedToFront (t .listing) (s .buffer)) (s .pieces)
 
+-- what at most n steps from a stage on print
 unfoldable pub printed : ℕ → Stage → List ℕ
 printed zero s = []
 printed (suc n) s =
-    let t = turn (s .at) (s .buffer) in
+    let t = callOnce (s .at) (s .buffer) in
     textOf (t .next) t ++ cond (isLast (t .next)) [] (printed n (after (t .next) t s))
 
 -- the list of an input that comes in these pieces, in a buffer of so many zero bytes
@@ -59,6 +50,7 @@ list size pieces = printed 32 (record { at = started; buffer = replicate size 0;
 
 -- ---- D1
 
+-- D1's bytes
 abbrev pub d1 : List ℕ
 d1 = 0x4E ∷ 0x01 ∷ 0x89 ∷ 0xA1 ∷ 0x87 ∷ 0xA2 ∷ 0x81 ∷ 0x78 ∷ 0xA3 ∷ 0x82 ∷ 0x6D ∷ 0x6C ∷ []
 
@@ -74,11 +66,11 @@ d1Text =
     ∷ 90 ∷ 32 ∷ 49 ∷ 50 ∷ 10
     ∷ []
 
--- the first lines of it, up to Amount, and then "M 8"
+-- the first lines of it, up to Amount, and then `M 8`
 abbrev pub tooLarge : List ℕ
 tooLarge = take 27 d1Text ++ (77 ∷ 32 ∷ 56 ∷ 10 ∷ [])
 
--- the first 8 bytes, cut: D3, "X 23 0"
+-- the first 8 bytes, cut: D3, `X 23 0`
 abbrev pub cutText : List ℕ
 cutText = take 27 d1Text ++ (88 ∷ 32 ∷ 50 ∷ 51 ∷ 32 ∷ 48 ∷ 10 ∷ [])
 
@@ -109,6 +101,7 @@ examples =
     ∷ (hex16 0xABCDEF, 48 ∷ 48 ∷ 48 ∷ 48 ∷ 48 ∷ 48 ∷ 48 ∷ 48 ∷ 48 ∷ 48 ∷ 65 ∷ 66 ∷ 67 ∷ 68 ∷ 69 ∷ 70 ∷ [])
     ∷ []
 
+-- every example prints its list
 pub all-examples : map (λ (p : List ℕ × List ℕ). p .0) examples ≡ map (λ (p : List ℕ × List ℕ). p .1) examples
-unfolding leadingZeros beFrom readVint arrToU64 fits rows firstFit textAfter every any goodPart goodParts goodEntry goodEntries goodShape onlyIds threes fours boundOf partOf sameBound samePart samePath kindOf isMaster clipped entryOf tableOf entryFor isIdOf hasId isTyped isParent isSibling isTypedRoot isEndedBy overMax underMin isIdAt walkGlobal walkAt walkPart unknownAndEnded walkMaster minMet walkEnd goOn walkFrom validateTagPath readTagId sizeOf tooLong sizedBy sized afterId readHeader readData endFor withOpen withWaiting withNotes settledTo opened closedTo handedOut goodOpen goodState refused12 refused13 isDone firstIndex closing noted step8 reaches step9 validHeader endedTops element elementOf step11 steps10-11 steps8-11 steps6-11 step5 steps4-11 steps2-11 decide move apply cutBytes isCut finish closeAll ended decodeEof digits places lines.element lines.rangeText lines.valueText lines.eventText lines.refusalText lines.positionText lines.answerText lines.line unread called turn kept afterRead filled printed
+unfolding rulesCompute digits places lines.elementText lines.rangeText lines.valueText lines.eventText lines.refusalText lines.positionText lines.answerText lines.line unread called callOnce unreadMovedToFront afterRead refilled printed
 all-examples = refl

@@ -1,4 +1,4 @@
--- What is unread after a turn and after a read, as lists. Assumes nothing.
+-- What is unread after a call and after a read, as lists. Assumes nothing.
 use Prim.Native.Nat.{ℕ, zero, suc, _+_, _-_, _≤_, _<_, min}
 use mathlib.Core.Path.{_≡_, refl, sym, ap, _∙_}
 use mathlib.Core.Bool.{Bool, true, false, cond, false≢true}
@@ -7,12 +7,11 @@ use native.Mathlib.Omega.{arith}
 use native.Mathlib.Nat.{min-le-right}
 use native.Mathlib.Decide.{decLe}
 use borrow.Author.Tests.{eq-eqb, ne-eqb}
-use lib.IntN.{pos}
 use lib.ListN.{length, take, drop, length-append, length-take, length-drop, take-append-drop}
 use lib.Seq.{take-nil, take-at, drop-append-add, drop-drop, length-take-le}
-use Rattle.decoder_state.specs.declared.types.TagDecoder.{TagDecoder}
-use Rattle.event_list.specs.Reading.{listing, upTo, begins, unreadCount, unread, kept, filledBy, afterRead}
-use Rattle.event_list.specs.Run.{given, unlessEmpty, left, joined, NoneEmpty, Stage, filled}
+use Rattle.decoder_rules.specs.declared.types.TagDecoder.{TagDecoder}
+use Rattle.event_list.specs.Reading.{listing, upTo, begins, unreadCount, unread, afterRead}
+use Rattle.event_list.specs.Run.{given, unlessEmpty, left, joined, NoneEmpty, Stage, refilled}
 use Rattle.event_list.specs.declared.types.Listing.{Listing}
 
 drop-take : (t n : ℕ) (l : List ℕ) → drop t (take n l) ≡ take (n - t) (drop t l)
@@ -28,7 +27,7 @@ length-unread l b = length-take-le (unreadCount l b) (drop (begins l b) b) (rw l
 pub unread-fits : (l : Listing) (b : List ℕ) → unreadCount l b ≤ length b
 unread-fits l b = omega arith
 
--- after a turn that took t bytes
+-- after a call that took t bytes
 
 clip-end : (u n : ℕ) → u ≤ n → min u n ≡ u
 clip-end u n h = omega arith
@@ -101,7 +100,7 @@ no-elements (x ∷ v) e = absurd (few (length v) e)
 
 module _ (d : TagDecoder) (u w : List ℕ) (e : Bool) (ps : List (List ℕ)) (space : 0 < length w) (some : NoneEmpty ps) where
   abbrev stage : Stage
-  stage = filled (listing d 0 (length u) e, u ++ w) ps
+  stage = refilled (listing d 0 (length u) e, u ++ w) ps
 
   room : length (u ++ w) - length u ≡ length w
   room = omega (arith, length-append u w)
@@ -113,7 +112,7 @@ module _ (d : TagDecoder) (u w : List ℕ) (e : Bool) (ps : List (List ℕ)) (sp
   fits = let h = given-fits (length (u ++ w) - length u) ps in omega (arith, room)
 
   buffer-is : stage .buffer ≡ u ++ v ++ drop (length v) w
-  unfolding filled
+  unfolding refilled
   buffer-is = rw (take-at u w (length u) refl, drop-append-add u w (length v))
 
   pub size-is : length (stage .buffer) ≡ length (u ++ w)
@@ -122,22 +121,22 @@ module _ (d : TagDecoder) (u w : List ℕ) (e : Bool) (ps : List (List ℕ)) (sp
       rw buffer-is (omega (arith, length-append (u ++ v) (drop (length v) w), length-append u v, length-append u w, length-drop (length v) w))
 
   pub rest-is : u ++ v ++ joined (stage .pieces) ≡ u ++ joined ps
-  unfolding filled
+  unfolding refilled
   rest-is = append-assoc u v (joined (left (length (u ++ w) - length u) ps)) ∙ ap (λ (x : List ℕ). u ++ x) (given-joined (length (u ++ w) - length u) ps)
 
   pub pieces-some : NoneEmpty (stage .pieces)
-  unfolding filled
+  unfolding refilled
   pieces-some = left-some (length (u ++ w) - length u) ps some
 
   at-some : (length v ≡ 0 → ⊥) → stage .at ≡ listing d 0 (length u + length v) e
-  unfolding filled afterRead
+  unfolding refilled afterRead
   at-some f =
       let h = fits in
       let c : min (length u + length v) (length (u ++ w)) ≡ length u + length v = clip-end _ _ (omega (arith, length-append u w)) in
       rw (ne-eqb (length v) 0 f, c)
 
   at-none : length v ≡ 0 → stage .at ≡ listing d 0 (length u) true
-  unfolding filled afterRead
+  unfolding refilled afterRead
   at-none z = rw (eq-eqb (length v) 0 z)
 
   -- the unread bytes are those before, and what was read
@@ -161,7 +160,7 @@ module _ (d : TagDecoder) (u w : List ℕ) (e : Bool) (ps : List (List ℕ)) (sp
       go (no f) = ap (λ (x : Listing). x .decoder) (at-none (omega arith))
 
   pub ended-only : e ≡ false → stage .at .ended ≡ true → (joined ps ≡ []) × (joined (stage .pieces) ≡ [])
-  unfolding filled
+  unfolding refilled
   ended-only still q = go (decLe 1 (length v))
     where
       n : ℕ
@@ -176,7 +175,7 @@ module _ (d : TagDecoder) (u w : List ℕ) (e : Bool) (ps : List (List ℕ)) (sp
 
   -- a read leaves less to read, or marks the end
   pub read-nearer : e ≡ false → length (joined (stage .pieces)) + cond (stage .at .ended) 0 1 < length (joined ps) + 1
-  unfolding filled
+  unfolding refilled
   read-nearer still = go (decLe 1 (length v))
     where
       n : ℕ

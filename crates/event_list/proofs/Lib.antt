@@ -1,11 +1,9 @@
-pub mod AnyReads
+pub mod PrintsTheList
 pub mod Buffers
-pub mod Digits
 pub mod Ending
 pub mod Examples
 pub mod Filling
 pub mod Putting
-pub mod ReadBack
 pub mod Taking
 pub mod Unique
 pub mod Views

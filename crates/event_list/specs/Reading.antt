@@ -1,40 +1,47 @@
--- What the lister does with its buffer b between two reads, and what it does after a call: print a line and go on, print the last line, or read more.
+-- What the lister does with its buffer b between two reads, and what it does after a call: print a line and go on,
+-- print the last line, or read more.
 use Prim.Native.Nat.{ℕ, _+_, _-_, min}
 use mathlib.Core.Bool.{Bool, true, false, cond}
 use mathlib.Core.List.{List, _++_}
 use lib.Dec.{ltb, eqb}
 use lib.IntN.{ℤ, pos, negsuc}
 use lib.ListN.{length, take, drop}
-use Rattle.decoder_state.specs.State.{fresh}
-use Rattle.decoder_state.specs.OneCall.{decode, decodeEof}
-use Rattle.decoder_state.specs.declared.types.Answer.{Answer}
-use Rattle.decoder_state.specs.declared.types.Answer.the-variants as answer
-use Rattle.decoder_state.specs.declared.types.Decoded.{Decoded}
-use Rattle.decoder_state.specs.declared.types.TagDecoder.{TagDecoder}
-use Rattle.event_list.specs.BenchTable.{benchEntries, benchParts}
+use Rattle.decoder_rules.specs.Record.{fresh}
+use Rattle.decoder_rules.specs.Moving.{decode}
+use Rattle.decoder_rules.specs.EndOfInput.{decodeEof}
+use Rattle.decoder_rules.specs.declared.types.Answer.{Answer}
+use Rattle.decoder_rules.specs.declared.types.Answer.the-variants as answer
+use Rattle.decoder_rules.specs.declared.types.Decoded.{Decoded}
+use Rattle.decoder_rules.specs.declared.types.TagDecoder.{TagDecoder}
+use Rattle.table.specs.BenchTable.{benchEntries, benchParts}
 use Rattle.event_list.specs.declared.types.Listing.{Listing}
 use Rattle.event_list.specs.declared.types.Next.{Next}
 use Rattle.event_list.specs.declared.types.Next.the-variants.{Line, Last, Read}
-use Rattle.event_list.specs.declared.types.Turn.{Turn}
+use Rattle.event_list.specs.declared.types.CallResult.{CallResult}
 
+-- what is kept: the decoder, from where and up to where the buffer is unread, and whether the input has ended
 abbrev pub listing : TagDecoder → ℕ → ℕ → Bool → Listing
 listing d from upto ended = record { decoder = d; from = from; upto = upto; ended = ended }
 
--- nothing is read yet, and the settings are as at first
+-- at the start nothing is read, and the settings are as at first
 abbrev pub started : Listing
 started = listing fresh 0 0 false
 
 -- ---- the unread bytes: those of the buffer from `from` up to `upto`, whatever the two numbers are
 
+-- the first place past the unread bytes
 abbrev pub upTo : Listing → List ℕ → ℕ
 upTo l b = min (l .upto) (length b)
 
+-- the place of the first of them
 abbrev pub begins : Listing → List ℕ → ℕ
 begins l b = min (l .from) (upTo l b)
 
+-- how many they are
 abbrev pub unreadCount : Listing → List ℕ → ℕ
 unreadCount l b = upTo l b - begins l b
 
+-- they themselves
 unfoldable pub unread : Listing → List ℕ → List ℕ
 unread l b = take (unreadCount l b) (drop (begins l b) b)
 
@@ -44,30 +51,33 @@ unread l b = take (unreadCount l b) (drop (begins l b) b)
 unfoldable pub called : Bool → TagDecoder → List ℕ → Decoded
 called ended d s = cond ended (decodeEof benchEntries benchParts d s) (decode benchEntries benchParts d s)
 
--- need more asks for a read where the buffer has room; with every byte of it unread the element is larger than the buffer, "X and M end the list", and so does Z
+-- what is done after an answer, with n bytes unread in a buffer of so many: need more asks for a read where the buffer
+-- has room; with every byte of it unread the element is larger than the buffer. "X and M end the list", and so does Z
 abbrev pub nextOf : Answer → ℕ → ℕ → Next
 nextOf (answer.Event e) n room = Line
 nextOf answer.NeedMore n room = cond (ltb n room) Read Last
 nextOf answer.Finished n room = Last
 nextOf (answer.Refused r) n room = Last
 
-abbrev pub turnOf : Listing → List ℕ → Decoded → Turn
-turnOf l b r = record {
+-- what follows from the answer r to a call on the unread bytes
+abbrev pub callResult : Listing → List ℕ → Decoded → CallResult
+callResult l b r = record {
   answer = r .answer;
   next = nextOf (r .answer) (unreadCount l b) (length b);
   listing = listing (r .state) (begins l b + r .taken) (upTo l b) (l .ended);
 }
 
-unfoldable pub turn : Listing → List ℕ → Turn
-turn l b = turnOf l b (called (l .ended) (l .decoder) (unread l b))
+-- one call on the unread bytes, and what is done after it
+unfoldable pub callOnce : Listing → List ℕ → CallResult
+callOnce l b = callResult l b (called (l .ended) (l .decoder) (unread l b))
 
 -- ---- before a read and after it
 
--- "Unread bytes move to the front of the buffer before it is filled again"
-unfoldable pub kept : Listing → List ℕ → Listing × List ℕ
-kept l b = (listing (l .decoder) 0 (unreadCount l b) (l .ended), unread l b ++ drop (unreadCount l b) b)
+-- the unread bytes move to the front of the buffer before it is filled again
+unfoldable pub unreadMovedToFront : Listing → List ℕ → Listing × List ℕ
+unreadMovedToFront l b = (listing (l .decoder) 0 (unreadCount l b) (l .ended), unread l b ++ drop (unreadCount l b) b)
 
--- a read put k bytes behind the unread ones, in a buffer of n bytes: "only a read of 0 bytes" is the end of input
+-- a read put k bytes behind the unread ones, in a buffer of n bytes: only a read of 0 bytes is the end of input
 abbrev pub filledBy : ℕ → Listing → ℕ → Listing
 filledBy n l k =
     cond (eqb k 0) (listing (l .decoder) (l .from) (l .upto) true)

@@ -1,21 +1,23 @@
--- The list of a whole input, with a buffer of so many bytes: no word of reads, of pieces or of what stood in the buffer when.
+-- The list of a whole input, with a buffer of so many bytes: no word of reads, of pieces or of what stood in the buffer
+-- when.
 use Prim.Native.Nat.{ℕ}
 use mathlib.Core.Bool.{cond}
 use mathlib.Core.Path.{_≡_}
 use mathlib.Core.List.{List, _++_}
 use lib.Dec.{ltb}
 use lib.ListN.{length, take, drop}
-use Rattle.decoder_state.specs.State.{fresh}
-use Rattle.decoder_state.specs.OneCall.{decode, decodeEof}
-use Rattle.decoder_state.specs.declared.types.Answer.the-variants as answer
-use Rattle.decoder_state.specs.declared.types.Decoded.{Decoded}
-use Rattle.decoder_state.specs.declared.types.Event.{Event}
-use Rattle.decoder_state.specs.declared.types.TagDecoder.{TagDecoder}
-use Rattle.event_list.specs.BenchTable.{benchEntries, benchParts}
+use Rattle.decoder_rules.specs.Record.{fresh}
+use Rattle.decoder_rules.specs.Moving.{decode}
+use Rattle.decoder_rules.specs.EndOfInput.{decodeEof}
+use Rattle.decoder_rules.specs.declared.types.Answer.the-variants as answer
+use Rattle.decoder_rules.specs.declared.types.Decoded.{Decoded}
+use Rattle.decoder_rules.specs.declared.types.Event.{Event}
+use Rattle.decoder_rules.specs.declared.types.TagDecoder.{TagDecoder}
+use Rattle.table.specs.BenchTable.{benchEntries, benchParts}
 use Rattle.event_list.specs.Line.{line}
 
--- what is answered next, with s still to come: where that is less than the buffer holds, it is all that there is; else the first bytes of it are all that can be
--- seen, and need more says that the element is larger than the buffer
+-- what is answered next, with s still to come: where that is less than the buffer holds, it is all that there is; else
+-- the first bytes of it are all that can be seen, and need more says that the element is larger than the buffer
 unfoldable pub nextAnswer : ℕ → TagDecoder → List ℕ → Decoded
 nextAnswer size d s = cond (ltb (length s) size) (decodeEof benchEntries benchParts d s) (decode benchEntries benchParts d (take size s))
 

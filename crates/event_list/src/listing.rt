@@ -1,4 +1,4 @@
-// One turn of the lister, and its buffer before and after a read.
+// One call of the lister, and its buffer before and after a read.
 
 ghost use mathlib.Core.Path.{_≡_};
 ghost use mathlib.Core.List.{_++_};
@@ -6,19 +6,20 @@ ghost use Prim.Native.Nat.{_+_, _≤_, min};
 ghost use lib.IntN.{natAbs};
 ghost use lib.ListN.{length, take, drop};
 ghost use Rattle.tools.specs.Answers.{Gives};
-ghost use Rattle.event_list.specs.Reading.{started, called, nextOf, turn, kept, filledBy, afterRead};
-use crate::bench::entries;
-use crate::bench::parts;
+ghost use Rattle.event_list.specs.Reading.{started, called, nextOf, callOnce, unreadMovedToFront, filledBy, afterRead};
+use crate::types::CallResult;
 use crate::types::Listing;
 use crate::types::Next;
-use crate::types::Turn;
-use decoder_state::types::Answer;
-use decoder_state::types::Decoded;
-use decoder_state::types::TagDecoder;
+use decoder_rules::types::Answer;
+use decoder_rules::types::Decoded;
+use decoder_rules::types::TagDecoder;
+use table::bench::entries;
+use table::bench::parts;
 use tag_decoder::calls::decode;
 use tag_decoder::calls::decode_eof;
 use tag_decoder::settings::new;
 
+// What is kept before the first read: a fresh decoder, and nothing unread.
 pub fn start() -> Listing
     ensures { λ r. ⌜ r ≡ started ⌝ }
 {
@@ -31,6 +32,7 @@ pub fn start() -> Listing
     }
 }
 
+// The smaller of two numbers.
 fn least(a: usize, b: usize) -> usize
     ensures { λ r. ⌜ (r ≡ min a b) × (r ≤ a) × (r ≤ b) ⌝ }
 {
@@ -49,6 +51,7 @@ fn call(ended: bool, d: TagDecoder, unread: &[u8]) -> Decoded
     decode(&table, &paths, d, unread)
 }
 
+// What is to be done after an answer, with so many bytes unread in a buffer of so many.
 fn next_of(answer: Answer, unread: usize, room: usize) -> Next
     ensures { λ r. ⌜ r ≡ nextOf answer unread room ⌝ }
 {
@@ -67,8 +70,8 @@ fn next_of(answer: Answer, unread: usize, room: usize) -> Next
 }
 
 // One call on the unread bytes, and what is to be done after it.
-pub fn turn(buffer: &[u8], l: Listing) -> Turn
-    ensures { λ r. ⌜ r ≡ turn l (now (buffer .entry)) ⌝ }
+pub fn call_once(buffer: &[u8], l: Listing) -> CallResult
+    ensures { λ r. ⌜ r ≡ callOnce l (now (buffer .entry)) ⌝ }
 {
     let upto = least(l.upto, buffer.len());
     let from = least(l.from, upto);
@@ -82,7 +85,7 @@ pub fn turn(buffer: &[u8], l: Listing) -> Turn
         upto,
         ended: l.ended,
     };
-    Turn {
+    CallResult {
         answer,
         next: next_of(answer, upto - from, buffer.len()),
         listing,
@@ -102,8 +105,8 @@ fn shift(buffer: &mut [u8], from: usize, count: usize)
 }
 
 // The unread bytes move to the front, so that the buffer can be filled behind them.
-pub fn keep(buffer: &mut [u8], l: Listing) -> Listing
-    ensures { λ r. ⌜ Gives r (now (buffer .exit)) (kept l (now (buffer .entry))) × (r .upto ≤ length (now (buffer .entry))) ⌝ }
+pub fn move_unread_to_front(buffer: &mut [u8], l: Listing) -> Listing
+    ensures { λ r. ⌜ Gives r (now (buffer .exit)) (unreadMovedToFront l (now (buffer .entry))) × (r .upto ≤ length (now (buffer .entry))) ⌝ }
 {
     let upto = least(l.upto, buffer.len());
     let from = least(l.from, upto);

@@ -1,7 +1,7 @@
-// What the lister keeps from one call to the next, and what it does after a call.
+// What the lister keeps from one call to the next, and what a call tells it to do.
 
-use decoder_state::types::Answer;
-use decoder_state::types::TagDecoder;
+use decoder_rules::types::Answer;
+use decoder_rules::types::TagDecoder;
 
 // The unread bytes are those of the buffer from `from` up to `upto`; `ended` once a read has given nothing.
 pub struct Listing {
@@ -11,6 +11,7 @@ pub struct Listing {
     pub ended: bool,
 }
 
+// What is to be done after a call.
 pub enum Next {
     // print the answer's line and go on
     Line,
@@ -20,7 +21,8 @@ pub enum Next {
     Read,
 }
 
-pub struct Turn {
+// What one call answered, what is to be done after it, and what is kept for the next.
+pub struct CallResult {
     pub answer: Answer,
     pub next: Next,
     pub listing: Listing,

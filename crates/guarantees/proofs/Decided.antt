@@ -1,13 +1,13 @@
--- What is decided at a call with a checked table, read off the steps: of each refusal, of each event and of the note, what the promises need.
--- Assumes nothing.
+-- What is decided at a call with a checked table, read off the view of its exits: of each refusal, of each event and of
+-- the note, what the promises need. Assumes nothing.
 use Prim.Native.Nat.{ℕ, _+_, _^_, _≤_, _<_}
 use mathlib.Core.Path.{_≡_, refl, sym, ap, _∙_, subst}
 use mathlib.Core.Bool.{Bool, true, false, not, _&&_, _||_, true≢false, false≢true}
 use mathlib.Core.List.{List, [], _∷_, map, List·Memᴰ·head, List·Memᴰ·tail}
 use native.Mathlib.Omega.{arith}
-use borrow.Author.Tests.{ltb-true, ltb-false, leb-true}
-use lib.Dec.{leb, ltb, eqb}
-use lib.ListN.{length, take, drop, length-map}
+use borrow.Author.Tests.{leb-false}
+use lib.Dec.{leb, eqb}
+use lib.ListN.{length, drop, length-map}
 use Rattle.tools.specs.Bytes.{Octets}
 use Rattle.tools.specs.Integer.{arrToU64, arrToI64}
 use Rattle.tools.specs.Float.{arrToF64}
@@ -18,18 +18,17 @@ use Rattle.tools.specs.declared.integer.ArrToI64.the-variants as signed
 use Rattle.tools.specs.declared.float.ArrToF64.{ArrToF64}
 use Rattle.tools.specs.declared.float.ArrToF64.the-variants as float
 use Rattle.utf8.specs.Rfc3629.{isText}
-use Rattle.table.specs.Lists.{every}
+use Rattle.basics.specs.Lists.{every}
 use Rattle.table.specs.Shape.{goodShape}
 use Rattle.table.specs.Check.{onlyIds}
-use Rattle.table.specs.Table.{Entry, tableOf, partsOf, within, dataTypeOf, pathOf, isMaster, isTyped}
+use Rattle.table.specs.Table.{Entry, tableOf, partsOf, partsIn, dataTypeOf, pathOf, isMaster, isTyped}
 use Rattle.table.specs.declared.types.PathPart.{PathPart}
 use Rattle.table.specs.declared.types.PathPart.the-variants.{Id, Global}
 use Rattle.table.specs.declared.types.TagDataType.{TagDataType}
 use Rattle.table.specs.declared.types.TagDataType.the-variants as type
-use Rattle.table.proofs.Entries.{path-of}
-use Rattle.table.proofs.Rules.{Masters, master-is}
-use Rattle.table.proofs.Shaped.{at-most-16}
-use Rattle.table.proofs.Passed.{PassedTable}
+use Rattle.table.specs.Passed.{Masters}
+use Rattle.table.proofs.Rules.{master-is}
+use Rattle.table.specs.Passed.{PassedTable}
 use Rattle.table.proofs.Consequences.{master-of-ids, path-masters}
 use Rattle.spec_util.specs.declared.types.OpenTag.{OpenTag}
 use Rattle.tag_parse.proofs.Headers.{header-sound, header-spec, known-small}
@@ -42,38 +41,39 @@ use Rattle.tag_parse.specs.declared.types.ParseError.the-variants as parse
 use Rattle.tag_parse.specs.declared.types.Range.{Range}
 use Rattle.tag_parse.specs.declared.types.ReadData.{ReadData}
 use Rattle.tag_parse.specs.declared.types.ReadData.the-variants as payload
-use Rattle.tag_parse.specs.declared.types.ReadHeader.{ReadHeader}
 use Rattle.tag_parse.specs.declared.types.ReadHeader.the-variants as header
 use Rattle.tag_parse.specs.declared.types.TagHeader.{TagHeader}
 use Rattle.tag_parse.specs.declared.types.TagValue.{TagValue}
-use Rattle.decoder_state.specs.State.{opens, implied, withOpen, withNotes, settledTo}
-use Rattle.decoder_state.specs.OneCall.{errorNumber, refused12, refused13, andThen, step3, step6, settles, step7, noted, plain, steps6-11, step5, steps4-11, steps2-11, orRefuse, decide, parseError, closing, dataOr, element, elementOf, step8, reaches, step9, step10, step11, steps10-11, validHeader, unless, steps8-11}
-use Rattle.decoder_state.specs.declared.types.Action.{Action}
-use Rattle.decoder_state.specs.declared.types.Action.the-variants as act
-use Rattle.decoder_state.specs.declared.types.Check.{Check}
-use Rattle.decoder_state.specs.declared.types.Check.the-variants.{Pass, Fail}
-use Rattle.decoder_state.specs.declared.types.Decision.{Decision}
-use Rattle.decoder_state.specs.declared.types.DecodeError.{DecodeError}
-use Rattle.decoder_state.specs.declared.types.DecodeError.the-variants as error
-use Rattle.decoder_state.specs.declared.types.Given.the-variants.{Number}
-use Rattle.decoder_state.specs.declared.types.Note.{Note}
-use Rattle.decoder_state.specs.declared.types.Note.the-variants.{NoNote, Settle}
-use Rattle.decoder_state.specs.declared.types.TagDecoder.{TagDecoder}
-use Rattle.decoder_state.proofs.Good.{GoodState, is-good-state, every-drop, and-both}
-use Rattle.decoder_state.proofs.Kept.{settled-opens, settled-count}
-use Rattle.decoder_decide.proofs.Judged.{pick}
+use Rattle.decoder_rules.specs.Record.{opens, implied}
+use Rattle.decoder_rules.specs.Numbers.{errorNumber, parseError}
+use Rattle.decoder_rules.specs.OneCall.{check10to12, checkRecord10to12, step3, settles, step7, isSettle, noted, reaches, step10}
+use Rattle.decoder_rules.specs.Deciding.{plain, decide}
+use Rattle.decoder_rules.specs.declared.types.Action.{Action}
+use Rattle.decoder_rules.specs.declared.types.Action.the-variants as act
+use Rattle.decoder_rules.specs.declared.types.Check.{Check}
+use Rattle.decoder_rules.specs.declared.types.Check.the-variants.{Pass, Fail}
+use Rattle.decoder_rules.specs.declared.types.Decision.{Decision}
+use Rattle.decoder_rules.specs.declared.types.DecodeError.{DecodeError}
+use Rattle.decoder_rules.specs.declared.types.DecodeError.the-variants as error
+use Rattle.decoder_rules.specs.declared.types.Optional.the-variants.{Number}
+use Rattle.decoder_rules.specs.declared.types.Note.{Note}
+use Rattle.decoder_rules.specs.declared.types.Note.the-variants.{NoNote, Settle}
+use Rattle.decoder_rules.specs.declared.types.TagDecoder.{TagDecoder}
+use Rattle.decoder_rules.proofs.HeaderPath.{path-read, path-few}
+use Rattle.decoder_rules.proofs.GoodState.{GoodState, is-good-state}
+use Rattle.decoder_rules.proofs.Exits as exit
+use Rattle.decoder_rules.proofs.Exits.{allMasters, payloadOf, Valid, HasPayload, NoneFull, Closing, HeaderExit, Exit, exits, valid-fits}
+use Rattle.decoder_rules.proofs.MoveEffects.{settled-opens, settled-count}
+use Rattle.decoder_rules.proofs.MoveLaws.{noted-settled, noted-waiting-count, noted-finished}
+use Rattle.basics.proofs.Every.{every-drop}
+use Rattle.basics.proofs.Bools.{pick, cond-yes, both, and-both, not-false}
 use Rattle.guarantees.specs.History.{declaredEnd, headerEnd, endAfter}
 use Rattle.guarantees.specs.Promises.{valueKind}
 use Rattle.guarantees.proofs.Ends.{FullBatch, step3-batch, step10-batch}
 
 -- ---- a Master of the table
 
-abbrev pub masterOf : List Entry → ℕ → Bool
-masterOf t x = isMaster (dataTypeOf t x)
-
-abbrev pub allMasters : List Entry → List OpenTag → Bool
-allMasters t l = every (λ m. isMaster (dataTypeOf t (m .id))) l
-
+-- what the table calls a Master passes the test
 pub is-master : (k : TagDataType) → k ≡ type.Master → isMaster k ≡ true
 unfolding isMaster
 is-master k e = rw e
@@ -100,9 +100,11 @@ pub record Mild (d : TagDecoder) (e : DecodeError) : Type 0 where
 abbrev Other : ℕ → Type 0
 Other n = (n ≡ 10 → ⊥) × (n ≡ 11 → ⊥) × (n ≡ 23 → ⊥) × (n ≡ 24 → ⊥) × (n ≡ 19 → ⊥)
 
+-- such a refusal may come of any record
 pub mild : (d : TagDecoder) (e : DecodeError) → Other (errorNumber e) → Mild d e
 mild d e o = record { not-10 = o .0; not-11 = o .1; not-23 = o .2; not-24 = o .3; at-19 = λ q. absurd (o .4 q) }
 
+-- a refusal of a header or of a payload may come of any record
 pub parse-mild : (d : TagDecoder) (e : ParseError) → Mild d (parseError e)
 parse-mild d parse.InvalidTagData = mild d error.InvalidTagData (omega arith)
 parse-mild d parse.FromUtf8Error = mild d error.FromUtf8Error (omega arith)
@@ -110,9 +112,6 @@ parse-mild d parse.ReadF64Mismatch = mild d error.ReadF64Mismatch (omega arith)
 parse-mild d parse.ReadIntegerOverflow = mild d error.ReadIntegerOverflow (omega arith)
 
 -- ---- a value has the kind that was asked for
-
-no-value : {A : Type 0} → _≡_ {A = ℕ} 0 1 → A
-no-value e = absurd (omega arith)
 
 -- what a payload is read as has this kind
 abbrev OfKind : TagDataType → ReadData → Type 0
@@ -151,12 +150,14 @@ pub record Reading (d : TagDecoder) : Type 0 where
 
 -- where the child-size test is on, an element that ends at e ends inside every open master of known size
 abbrev pub Inside : TagDecoder → ℕ → Type 0
-Inside d e = d .«allow_oversized» ≡ false → every (reaches e) (opens d) ≡ true
+Inside d e = d .settings .«allow_oversized» ≡ false → every (reaches e) (opens d) ≡ true
 
+-- the same of an element with a header of len bytes and this size
 abbrev pub InsideSize : TagDecoder → ℕ → EBMLSize → Type 0
 InsideSize d len Unknown = Unit {0}
 InsideSize d len (Known n) = Inside d (d .position + (len + n))
 
+-- a known size is below 2^56
 abbrev pub Small : EBMLSize → Type 0
 Small Unknown = Unit {0}
 Small (Known n) = n < 2 ^ 56
@@ -167,6 +168,7 @@ pub record Heads (t : List Entry) (s : List ℕ) (x : ℕ) : Type 0 where
   pub is-read : readHeader t s ≡ header.Header its
   pub same-id : its .id ≡ x
 
+-- what holds where a Start was decided
 pub record Starts (t : List Entry) (d : TagDecoder) (s : List ℕ) (x : ℕ) (z : EBMLSize) (len : ℕ) : Type 0 where
   pub heads : Heads t s x
   pub reading : Reading d
@@ -176,6 +178,7 @@ pub record Starts (t : List Entry) (d : TagDecoder) (s : List ℕ) (x : ℕ) (z 
   pub small : Small z
   pub inside : InsideSize d len z
 
+-- what holds where a Data was decided
 pub record Holds (t : List Entry) (d : TagDecoder) (s : List ℕ) (x : ℕ) (v : TagValue) (n : ℕ) : Type 0 where
   pub heads : Heads t s x
   pub reading : Reading d
@@ -183,6 +186,7 @@ pub record Holds (t : List Entry) (d : TagDecoder) (s : List ℕ) (x : ℕ) (v :
   pub end : declaredEnd t (d .position) s ≡ Number (d .position + n)
   pub inside : Inside d (d .position + n)
 
+-- what holds where the closing of all above the first n was decided
 pub record Closes (d : TagDecoder) (n : ℕ) : Type 0 where
   pub reading : Reading d
   pub batch : FullBatch d n
@@ -197,112 +201,78 @@ Facts t d s (act.Close k) = Closes d k
 Facts t d s (act.Start x z len) = Starts t d s x z len
 Facts t d s (act.Data x v n) = Holds t d s x v n
 
--- ---- 8 and 9
+-- ---- a closing: no table fault
 
--- what passed them, or why not
-abbrev Valid : TagDecoder → TagHeader → Check → Type 0
-Valid d h Pass = InsideSize d (h .len) (h .size)
-Valid d h (Fail e) = Mild d e
+-- where all are Masters of the table, all above the first k are
+pub no-fault : (t : List Entry) (k : ℕ) (l : List OpenTag) → allMasters t l ≡ true → allMasters t (drop k l) ≡ false → ⊥
+no-fault t k l m e = true≢false (sym (every-drop (λ m. isMaster (dataTypeOf t (m .id))) k l m) ∙ e)
 
-module _ (d : TagDecoder) (len n : ℕ) where
-  or-off : (a b : Bool) → (a || b) ≡ true → a ≡ false → b ≡ true
-  or-off true b e f = absurd (true≢false f)
-  or-off false b e f = e
+module _ (t : List Entry) (d : TagDecoder) (s : List ℕ) (reading : Reading d) (masters : allMasters t (opens d) ≡ true) where
+  closing-facts : (k : ℕ) {a : Action} → FullBatch d k → Closing t d k a → Facts t d s a
+  closing-facts k batch (exit.closes e) = record { reading = reading; batch = batch }
+  closing-facts k batch (exit.no-master e) = absurd (no-fault t k (opens d) masters e)
 
-  step9-known : (h : TagHeader) → h .size ≡ Known n → h .len ≡ len → Valid d h (step9 d len (Known n))
-  unfolding step9
-  step9-known h e l =
-      pick (Valid d h) (d .«allow_oversized» || every (reaches (d .position + (len + n))) (opens d)) _ (Fail error.OversizedChildElement)
-      (λ f. pick (Valid d h) (d .«max_given» && ltb (d .«max_size») n) (Fail error.InvalidTagSize) Pass (λ g. mild d error.InvalidTagSize (omega arith))
-      (λ g. rw (e, l) (λ off. or-off (d .«allow_oversized») (every (reaches (d .position + (len + n))) (opens d)) f off)))
-      (λ f. mild d error.OversizedChildElement (omega arith))
+-- ---- 8 to 11, of a header that was read; d has the note
 
-step9-valid : (d : TagDecoder) (h : TagHeader) (z : EBMLSize) → h .size ≡ z → Valid d h (step9 d (h .len) z)
-unfolding step9
-step9-valid d h Unknown e = rw e tt
-step9-valid d h (Known n) e = step9-known d (h .len) n h e refl
+or-off : (a b : Bool) → (a || b) ≡ true → a ≡ false → b ≡ true
+or-off true b e f = absurd (true≢false f)
+or-off false b e f = e
 
-valid : (t : List Entry) (d : TagDecoder) (h : TagHeader) → Valid d h (validHeader t d h)
-unfolding validHeader
-valid t d h =
-    pick (Valid d h) (step8 t d h) (step9 d (h .len) (h .size)) (Fail error.HierarchyError) (λ f. step9-valid d h (h .size) refl) (λ f. mild d error.HierarchyError (omega arith))
+module _ (t : List Entry) (d : TagDecoder) (s : List ℕ) (byte : Octets s) (h : TagHeader) (is : readHeader t s ≡ header.Header h) where
+  end-is : declaredEnd t (d .position) s ≡ endAfter (d .position + h .len) (h .size)
+  unfolding declaredEnd
+  end-is = ap (headerEnd (d .position)) is
 
--- ---- 3 and 10: no table fault
+  its-head : Heads t s (h .id)
+  its-head = record { its = h; is-read = is; same-id = refl }
 
-module _ (t : List Entry) (d : TagDecoder) (s : List ℕ) (reading : Reading d) (masters : allMasters t (opens d) ≡ true) (count : length (opens d) ≡ d .«open_count») where
-  closing-facts : (k : ℕ) → FullBatch d k → Facts t d s (closing t d k)
-  unfolding closing
-  closing-facts k batch =
-      pick (Facts t d s) (allMasters t (drop k (opens d))) (act.Close k) (act.Refuse error.NotAMaster) (λ e. record { reading = reading; batch = batch })
-      (λ e. absurd (true≢false (sym (every-drop (λ m. isMaster (dataTypeOf t (m .id))) k (opens d) masters) ∙ e)))
+  inside-size : Valid t d h → (z : EBMLSize) → h .size ≡ z → InsideSize d (h .len) z
+  inside-size v Unknown e = tt
+  inside-size v (Known n) e = λ off. or-off (d .settings .«allow_oversized») _ (valid-fits t d h n v e) off
 
-  -- ---- 10 and 11, of a header that was read
+  small-size : (z : EBMLSize) → h .size ≡ z → Small z
+  small-size Unknown e = tt
+  small-size (Known n) e = known-small n (header-sound t s h byte is) e
 
-  module _ (byte : Octets s) (h : TagHeader) (is : readHeader t s ≡ header.Header h) (inside : InsideSize d (h .len) (h .size)) where
-    end-is : declaredEnd t (d .position) s ≡ endAfter (d .position + h .len) (h .size)
-    unfolding declaredEnd
-    end-is = ap (headerEnd (d .position)) is
+  module _ (reading : Reading d) where
+    start-facts : Valid t d h → isMaster (h .kind) ≡ true → d .settled ≡ true → Starts t d s (h .id) (h .size) (h .len)
+    start-facts v k settled = record {
+      heads = its-head;
+      reading = reading;
+      settled = settled;
+      master = sym (header-spec t s h is .kind) ∙ master-is (h .kind) k;
+      end = end-is;
+      small = small-size (h .size) refl;
+      inside = inside-size v (h .size) refl;
+    }
 
-    data-facts : (n : ℕ) → h .size ≡ Known n → (r : ReadData) → OfKind (h .kind) r → Facts t d s (dataOr (h .id) (h .len + n) r)
-    data-facts n e (payload.Value v) k =
+    data-facts : (n : ℕ) (v : TagValue) → HasPayload t d h n → payloadOf d h n s ≡ payload.Value v → Holds t d s (h .id) v (h .len + n)
+    data-facts n v has e =
         let a : d .position + h .len + n ≡ d .position + (h .len + n) = omega arith in
+        let k : valueKind v ≡ h .kind = subst (OfKind (h .kind)) e (data-kind (h .kind) _ _ (has .no-master)) in
         record {
-          heads = record { its = h; is-read = is; same-id = refl };
+          heads = its-head;
           reading = reading;
           kind = k ∙ header-spec t s h is .kind;
-          end = end-is ∙ ap (endAfter (d .position + h .len)) e ∙ ap Number a;
-          inside = subst (InsideSize d (h .len)) e inside;
+          end = end-is ∙ ap (endAfter (d .position + h .len)) (has .known) ∙ ap Number a;
+          inside = inside-size (has .at .valid) (Known n) (has .known);
         }
-    data-facts n e (payload.Refused x) k = parse-mild d x
 
-    element-facts : (z : EBMLSize) → h .size ≡ z → isMaster (h .kind) ≡ false → Facts t d s (elementOf (d .position) h z s)
-    unfolding elementOf element
-    element-facts Unknown e k = mild d error.InvalidTagData (omega arith)
-    element-facts (Known n) e k =
-        pick (Facts t d s) (ltb (length s) (h .len + n)) act.NeedMore _ (λ f. reading)
-        (λ f. data-facts n e
-        (readData (h .kind) (take n (drop (h .len) s)) (record { begin = d .position + h .len; end = d .position + (h .len + n) }))
-        (data-kind (h .kind) _ _ k))
+    full-19 : 32 ≤ d .«open_count» → Mild d error.TooManyOpen
+    full-19 l = record { not-10 = omega arith; not-11 = omega arith; not-23 = omega arith; not-24 = omega arith; at-19 = λ q. (reading .none-waiting, l) }
 
-    small-size : (z : EBMLSize) → h .size ≡ z → Small z
-    small-size Unknown e = tt
-    small-size (Known n) e = known-small n (header-sound t s h byte is) e
-
-    module _ (settled : isMaster (h .kind) ≡ true → d .settled ≡ true) where
-      step11-facts : Facts t d s (step11 (d .«open_count») (d .position) h s)
-      unfolding step11
-      step11-facts =
-          pick (Facts t d s) (isMaster (h .kind)) _ _
-          (λ k. pick (Facts t d s) (leb 32 (d .«open_count»)) (act.Refuse error.TooManyOpen) (act.Start (h .id) (h .size) (h .len))
-          (λ f. full f)
-          (λ f. record {
-            heads = record { its = h; is-read = is; same-id = refl };
-            reading = reading;
-            settled = settled k;
-            master = sym (header-spec t s h is .kind) ∙ master-is (h .kind) k;
-            end = end-is;
-            small = small-size (h .size) refl;
-            inside = inside;
-          }))
-          (λ k. element-facts (h .size) refl k)
-        where
-          full : leb 32 (d .«open_count») ≡ true → Mild d error.TooManyOpen
-          full f = record { not-10 = omega arith; not-11 = omega arith; not-23 = omega arith; not-24 = omega arith; at-19 = λ q. (reading .none-waiting, leb-true 32 (d .«open_count») f) }
-
-      steps10-facts : Facts t d s (steps10-11 t d h s)
-      unfolding steps10-11
-      steps10-facts =
-          pick (Facts t d s) (ltb (step10 t d (h .id)) (d .«open_count»)) _ _ (λ f. closing-facts (step10 t d (h .id)) (step10-batch t d (h .id) count (ltb-true _ _ f))) (λ f. step11-facts)
-
--- 8 to 11; d has the note
-steps8-facts : (t : List Entry) (d : TagDecoder) (s : List ℕ) → Reading d → allMasters t (opens d) ≡ true → length (opens d) ≡ d .«open_count» → Octets s → (h : TagHeader) → readHeader t s ≡ header.Header h
-    → (isMaster (h .kind) ≡ true → d .settled ≡ true) → Facts t d s (steps8-11 t d h s)
-unfolding steps8-11
-steps8-facts t d s reading masters count byte h is settled = go (validHeader t d h) (valid t d h)
-  where
-    go : (c : Check) → Valid d h c → Facts t d s (unless c (steps10-11 t d h s))
-    go Pass v = steps10-facts t d s reading masters count byte h is v settled
-    go (Fail e) v = v
+    module _ (masters : allMasters t (opens d) ≡ true) (count : length (opens d) ≡ d .«open_count») (settled : isMaster (h .kind) ≡ true → d .settled ≡ true) where
+      header-facts : {a : Action} → HeaderExit t d h s a → Facts t d s a
+      header-facts (exit.misplaced p) = mild d error.HierarchyError (omega arith)
+      header-facts (exit.oversized n p e f) = mild d error.OversizedChildElement (omega arith)
+      header-facts (exit.too-large n p e f g) = mild d error.InvalidTagSize (omega arith)
+      header-facts (exit.ends-tops v l c) = closing-facts t d s reading masters (step10 t d (h .id)) (step10-batch t d (h .id) count l) c
+      header-facts (exit.too-many at k l) = full-19 l
+      header-facts (exit.starts at k l) = start-facts (at .valid) k (settled k)
+      header-facts (exit.no-size at k e) = mild d error.InvalidTagData (omega arith)
+      header-facts (exit.payload-incomplete n has l) = reading
+      header-facts (exit.payload-refused n x has l e) = parse-mild d x
+      header-facts (exit.holds n v has l e) = data-facts n v has e
 
 -- ---- 7: the note
 
@@ -312,154 +282,130 @@ pub record Settles (t : List Entry) (d : TagDecoder) (path : List PathPart) : Ty
   pub masters : allMasters t (map implied path) ≡ true
   pub short : length path ≤ 32
 
+-- what holds of the note that was decided
 abbrev pub NoteFacts : List ℕ → List Entry → TagDecoder → Note → Type 0
 NoteFacts ps t d NoNote = Unit {0}
-NoteFacts ps t d (Settle path) = Settles t d (within (partsOf ps) path)
-
-not-so : (b : Bool) → not b ≡ true → b ≡ false
-not-so true e = absurd (false≢true e)
-not-so false e = refl
-
-three : (a b c : Bool) → (a && b && c) ≡ true → (a ≡ true) × (b ≡ true) × (c ≡ true)
-three true true true e = (refl, refl, refl)
-three true true false e = absurd (false≢true e)
-three true false c e = absurd (false≢true e)
-three false b c e = absurd (false≢true e)
+NoteFacts ps t d (Settle path) = Settles t d (partsIn (partsOf ps) path)
 
 all-three : (a b c : Bool) → a ≡ false → b ≡ true → c ≡ true → (not a && b && c) ≡ true
 all-three a b c p q r = rw (p, q, r)
 
-module _ (es ps : List ℕ) (shape : goodShape es ps ≡ true) (passed : PassedTable (tableOf es ps)) (s : List ℕ) (h : TagHeader) (is : readHeader (tableOf es ps) s ≡ header.Header h) where
-  path-is : within (partsOf ps) (h .path) ≡ pathOf (tableOf es ps) (h .id)
-  path-is = path-of es ps (h .id) (header-spec (tableOf es ps) s h is .path)
+module _ (es ps : List ℕ) (s : List ℕ) (h : TagHeader) (is : readHeader (tableOf es ps) s ≡ header.Header h) where
+  path-is : partsIn (partsOf ps) (h .path) ≡ pathOf (tableOf es ps) (h .id)
+  path-is = path-read es ps s h is
 
-  pub step7-facts : (d : TagDecoder) → NoteFacts ps (tableOf es ps) d (step7 ps d h)
+  -- the path of a header that was read fits the record
+  pub path-short : goodShape es ps ≡ true → length (partsIn (partsOf ps) (h .path)) ≤ 32
+  path-short shape = omega (arith, path-few es ps s h is shape)
+
+module _ (es ps : List ℕ) (shape : goodShape es ps ≡ true) (passed : PassedTable (tableOf es ps)) (s : List ℕ) (h : TagHeader) (is : readHeader (tableOf es ps) s ≡ header.Header h) where
+  -- it holds of the note of a header that was read
+  pub step7-facts : (d : TagDecoder) → NoteFacts ps (tableOf es ps) d (step7 (tableOf es ps) d h)
   step7-facts d =
-      pick (NoteFacts ps (tableOf es ps) d) (settles ps d h) (Settle (h .path)) NoNote
+      pick (NoteFacts ps (tableOf es ps) d) (settles (tableOf es ps) d h) (Settle (h .path)) NoNote
       (λ e.
-      let f = three (not (d .settled)) (isTyped (h .kind)) (onlyIds (within (partsOf ps) (h .path))) e in
+      let ids = both (not (d .settled) && isTyped (h .kind)) (onlyIds (pathOf (tableOf es ps) (h .id))) e in
       record {
-        unsettled = not-so (d .settled) (f .0);
-        masters = implied-masters (tableOf es ps) (within (partsOf ps) (h .path)) (f .2) (rw path-is (path-masters (tableOf es ps) passed (h .id)));
-        short = let q : length (within (partsOf ps) (h .path)) ≡ length (pathOf (tableOf es ps) (h .id)) = ap length path-is in omega (arith, at-most-16 es ps shape (h .id));
+        unsettled = not-false (d .settled) (both (not (d .settled)) (isTyped (h .kind)) (ids .left) .left);
+        masters = rw (path-is es ps s h is) (implied-masters (tableOf es ps) (pathOf (tableOf es ps) (h .id)) (ids .right) (path-masters (tableOf es ps) passed (h .id)));
+        short = path-short es ps s h is shape;
       })
       (λ e. tt)
 
   -- a Master starts only once settled: its path holds IDs only (rule 33)
-  master-settles : (d : TagDecoder) → isMaster (h .kind) ≡ true → noted ps d (step7 ps d h) .settled ≡ true
-  unfolding noted settledTo withOpen withNotes isTyped
-  master-settles d k = go (d .settled) refl
+  master-settles : (d : TagDecoder) → isMaster (h .kind) ≡ true → noted ps d (step7 (tableOf es ps) d h) .settled ≡ true
+  unfolding isTyped
+  master-settles d k = noted-settled ps d (step7 (tableOf es ps) d h) ∙ go (d .settled) refl
     where
       kind : h .kind ≡ type.Master
       kind = master-is (h .kind) k
 
-      ids : onlyIds (within (partsOf ps) (h .path)) ≡ true
-      ids = rw path-is (master-of-ids (tableOf es ps) passed (h .id) (sym (header-spec (tableOf es ps) s h is .kind) ∙ kind))
+      ids : onlyIds (pathOf (tableOf es ps) (h .id)) ≡ true
+      ids = master-of-ids (tableOf es ps) passed (h .id) (sym (header-spec (tableOf es ps) s h is .kind) ∙ kind)
 
       typed : isTyped (h .kind) ≡ true
       typed = rw kind
 
-      go : (b : Bool) → d .settled ≡ b → noted ps d (step7 ps d h) .settled ≡ true
-      go true e =
-          pick (λ (n : Note). noted ps d n .settled ≡ true) (settles ps d h) (Settle (h .path)) NoNote (λ f. refl) (λ f. e)
-      go false e =
-          pick (λ (n : Note). noted ps d n .settled ≡ true) (settles ps d h) (Settle (h .path)) NoNote (λ f. refl)
-          (λ f. absurd (true≢false (sym (all-three (d .settled) (isTyped (h .kind)) (onlyIds (within (partsOf ps) (h .path))) e typed ids) ∙ f)))
+      go : (b : Bool) → d .settled ≡ b → (b || isSettle (step7 (tableOf es ps) d h)) ≡ true
+      go true e = refl
+      go false e = ap isSettle (cond-yes (settles (tableOf es ps) d h) (Settle (h .path)) NoNote (all-three _ _ _ e typed ids))
 
 -- the note keeps what the promises need
 noted-reading : (ps : List ℕ) (d : TagDecoder) (n : Note) → Reading d → Reading (noted ps d n)
-unfolding noted settledTo withOpen withNotes
-noted-reading ps d NoNote r = r
-noted-reading ps d (Settle path) r = record { none-waiting = r .none-waiting; unfinished = r .unfinished }
+noted-reading ps d n r = record { none-waiting = noted-waiting-count ps d n ∙ r .none-waiting; unfinished = noted-finished ps d n ∙ r .unfinished }
 
+-- the open masters are Masters of the table with the note too
 pub noted-masters : (ps : List ℕ) (t : List Entry) (d : TagDecoder) (n : Note) → NoteFacts ps t d n → allMasters t (opens d) ≡ true → allMasters t (opens (noted ps d n)) ≡ true
 unfolding noted
 noted-masters ps t d NoNote f m = m
-noted-masters ps t d (Settle path) f m = rw (settled-opens d (within (partsOf ps) path)) (f .masters)
+noted-masters ps t d (Settle path) f m = rw (settled-opens d (partsIn (partsOf ps) path)) (f .masters)
 
 noted-count : (ps : List ℕ) (d : TagDecoder) (n : Note) → length (opens d) ≡ d .«open_count» → length (opens (noted ps d n)) ≡ noted ps d n .«open_count»
 unfolding noted
 noted-count ps d NoNote e = e
-noted-count ps d (Settle path) e = ap length (settled-opens d (within (partsOf ps) path)) ∙ length-map (within (partsOf ps) path) implied ∙ sym (settled-count d (within (partsOf ps) path))
+noted-count ps d (Settle path) e =
+    ap length (settled-opens d (partsIn (partsOf ps) path)) ∙ length-map (partsIn (partsOf ps) path) implied ∙ sym (settled-count d (partsIn (partsOf ps) path))
+
+-- ---- 1
+
+-- the refusal 12: n bytes reach beyond 2^62
+pub record TooFar (d : TagDecoder) (n : ℕ) (e : DecodeError) : Type 0 where
+  pub number : errorNumber e ≡ 12
+  pub beyond : 2 ^ 62 < d .position + n
+
+-- a check that fails does so with 12
+abbrev FailsFar : TagDecoder → ℕ → Check → Type 0
+FailsFar d n Pass = Unit {0}
+FailsFar d n (Fail e) = TooFar d n e
+
+-- of 10 to 12 only 12 comes, on a good record and with a table of good shape
+pub only-far : (es ps : List ℕ) (d : TagDecoder) (n : ℕ) {e : DecodeError} → goodShape es ps ≡ true → GoodState d → checkRecord10to12 es ps d n ≡ Fail e → TooFar d n e
+unfolding checkRecord10to12 check10to12
+only-far es ps d n shape good q =
+    subst (FailsFar d n) q
+    (rw (shape, is-good-state d good)
+    (pick (FailsFar d n) (leb (d .position + n) (2 ^ 62)) Pass (Fail error.TooFar) (λ f. tt) (λ f. record { number = refl; beyond = leb-false _ _ f })))
 
 -- ---- the decision
 
+-- what holds of a decision: of its note, and of its action on the record with the note
 pub record AllFacts (ps : List ℕ) (t : List Entry) (d : TagDecoder) (s : List ℕ) (a : Decision) : Type 0 where
   pub note : NoteFacts ps t d (a .note)
   pub action : Facts t (noted ps d (a .note)) s (a .action)
 
-plain-facts : (ps : List ℕ) (t : List Entry) (d : TagDecoder) (s : List ℕ) (a : Action) → Facts t d s a → AllFacts ps t d s (plain a)
-unfolding noted
-plain-facts ps t d s a f = record { note = tt; action = f }
-
--- ---- 1
-
-abbrev pub Failing : TagDecoder → Check → Type 0
-Failing d Pass = Unit {0}
-Failing d (Fail e) = Mild d e
-
-pub first-mild : (es ps : List ℕ) (d : TagDecoder) (n : ℕ) → goodShape es ps ≡ true → GoodState d → Failing d (refused12 es ps d n)
-unfolding refused12
-first-mild es ps d n shape good =
-    rw (shape, is-good-state d good) (pick (Failing d) (leb (d .position + n) (2 ^ 62)) Pass (Fail error.TooFar) (λ e. tt) (λ e. mild d error.TooFar (omega arith)))
-
-second-mild : (d : TagDecoder) (n : ℕ) → Failing d (refused13 d n)
-unfolding refused13
-second-mild d n = pick (Failing d) (d .finished && ltb 0 n) (Fail error.AfterFinish) Pass (λ e. mild d error.AfterFinish (omega arith)) (λ e. tt)
-
--- ---- 2 to 11
-
 module _ (es ps : List ℕ) (shape : goodShape es ps ≡ true) (passed : PassedTable (tableOf es ps)) (d : TagDecoder) (s : List ℕ) (byte : Octets s)
-    (masters : allMasters (tableOf es ps) (opens d) ≡ true) (count : length (opens d) ≡ d .«open_count») where
-  module _ (reading : Reading d) where
-    steps6-facts : (h : TagHeader) → readHeader (tableOf es ps) s ≡ header.Header h → AllFacts ps (tableOf es ps) d s (steps6-11 ps (tableOf es ps) d h s)
-    unfolding steps6-11
-    steps6-facts h is =
-        let t = tableOf es ps in
-        let n = step7 ps d h in
-        let f = step7-facts es ps shape passed s h is d in
-        pick (AllFacts ps t d s) (step6 d h) _ _
-        (λ e. record {
-          note = f;
-          action = steps8-facts t (noted ps d n) s (noted-reading ps d n reading) (noted-masters ps t d n f masters) (noted-count ps d n count) byte h is (master-settles es ps shape passed s h is d);
-        })
-        (λ e. plain-facts ps t d s (act.Refuse error.InvalidTagId) (mild d error.InvalidTagId (omega arith)))
+    (masters : allMasters (tableOf es ps) (opens d) ≡ true) (count : length (opens d) ≡ d .«open_count») (good : GoodState d) where
+  plain-facts : (a : Action) → Facts (tableOf es ps) d s a → AllFacts ps (tableOf es ps) d s (plain a)
+  unfolding noted
+  plain-facts a f = record { note = tt; action = f }
 
-    step5-facts : (r : ReadHeader) → readHeader (tableOf es ps) s ≡ r → AllFacts ps (tableOf es ps) d s (step5 ps (tableOf es ps) d s r)
-    unfolding step5
-    step5-facts header.NeedMore e = plain-facts ps (tableOf es ps) d s act.NeedMore reading
-    step5-facts (header.Refused x) e = plain-facts ps (tableOf es ps) d s (act.Refuse (parseError x)) (parse-mild d x)
-    step5-facts (header.Header h) e = steps6-facts h e
+  reading-by : exit.Reading es ps d s → Reading d
+  reading-by r = record { none-waiting = r .none-waiting; unfinished = r .unfinished }
 
-    steps4-facts : AllFacts ps (tableOf es ps) d s (steps4-11 ps (tableOf es ps) d s)
-    unfolding steps4-11
-    steps4-facts =
-        pick (AllFacts ps (tableOf es ps) d s) (eqb (length s) 0) (plain act.NeedMore) _
-        (λ f. plain-facts ps (tableOf es ps) d s act.NeedMore reading)
-        (λ f. step5-facts (readHeader (tableOf es ps) s) refl)
+  more-facts : NoneFull es ps d s → AllFacts ps (tableOf es ps) d s (plain act.NeedMore)
+  more-facts n = plain-facts act.NeedMore (reading-by (n .reading))
 
-  steps2-facts : AllFacts ps (tableOf es ps) d s (steps2-11 ps (tableOf es ps) d s)
-  unfolding steps2-11
-  steps2-facts =
+  exit-facts : {a : Decision} → Exit es ps d s a → AllFacts ps (tableOf es ps) d s a
+  exit-facts (exit.refused-first x e) = plain-facts (act.Refuse x) (let q = only-far es ps d (length s) shape good e .number in mild d x (omega arith))
+  exit-facts (exit.after-finish e f l) = plain-facts (act.Refuse error.AfterFinish) (mild d error.AfterFinish (omega arith))
+  exit-facts (exit.hands-out ok w) = plain-facts act.HandOut tt
+  exit-facts (exit.finished ok w f) = plain-facts act.Finish (w, f)
+  exit-facts (exit.closes-full r l c) = plain-facts _ (closing-facts (tableOf es ps) d s (reading-by r) masters (step3 d) (step3-batch d count l) c)
+  exit-facts (exit.no-byte n z) = more-facts n
+  exit-facts (exit.header-incomplete at e) = more-facts (at .none-full)
+  exit-facts (exit.header-refused x at e) = plain-facts (act.Refuse (parseError x)) (parse-mild d x)
+  exit-facts (exit.unknown-id h at f) = plain-facts (act.Refuse error.InvalidTagId) (mild d error.InvalidTagId (omega arith))
+  exit-facts (exit.on-header h at f x) =
       let t = tableOf es ps in
-      pick (AllFacts ps t d s) (ltb 0 (d .«waiting_count»)) (plain act.HandOut) _
-      (λ f. plain-facts ps t d s act.HandOut tt)
-      (λ f.
-      let none : d .«waiting_count» ≡ 0 = omega (arith, ltb-false 0 (d .«waiting_count») f) in
-      pick (AllFacts ps t d s) (d .finished) (plain act.Finish) _
-      (λ g. plain-facts ps t d s act.Finish (none, g))
-      (λ g.
-      let reading : Reading d = record { none-waiting = none; unfinished = g } in
-      pick (AllFacts ps t d s) (ltb (step3 d) (d .«open_count»)) (plain (closing t d (step3 d))) _
-      (λ i. plain-facts ps t d s (closing t d (step3 d)) (closing-facts t d s reading masters count (step3 d) (step3-batch d count (ltb-true _ _ i))))
-      (λ i. steps4-facts reading)))
+      let n = step7 t d h in
+      let e = noted ps d n in
+      let note = step7-facts es ps shape passed s h (at .read) d in
+      let reading = noted-reading ps d n (reading-by (at .at-bytes .none-full .reading)) in
+      record {
+        note = note;
+        action = header-facts t e s byte h (at .read) reading (noted-masters ps t d n note masters) (noted-count ps d n count) (master-settles es ps shape passed s h (at .read) d) x;
+      }
 
-  -- 10 and 11 do not come either
-  pub decide-facts : GoodState d → AllFacts ps (tableOf es ps) d s (decide es ps d s)
-  unfolding decide
-  decide-facts good = go (refused12 es ps d (length s)) (first-mild es ps d (length s) shape good) (refused13 d (length s)) (second-mild d (length s))
-    where
-      go : (a : Check) → Failing d a → (b : Check) → Failing d b → AllFacts ps (tableOf es ps) d s (orRefuse (andThen a b) (steps2-11 ps (tableOf es ps) d s))
-      go Pass p Pass q = steps2-facts
-      go Pass p (Fail e) q = plain-facts ps (tableOf es ps) d s (act.Refuse e) q
-      go (Fail e) p b q = plain-facts ps (tableOf es ps) d s (act.Refuse e) p
+  -- of the decision of any call on a good record with a checked table: what the promises need
+  pub decide-facts : AllFacts ps (tableOf es ps) d s (decide es ps d s)
+  decide-facts = exit-facts (exits es ps d s)

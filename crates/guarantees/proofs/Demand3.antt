@@ -4,15 +4,17 @@ use mathlib.Core.Path.{_≡_}
 use mathlib.Core.List.{List, _∷_}
 use Rattle.table.specs.Check.{checkTable}
 use Rattle.table.specs.declared.types.Checked.the-variants.{Passed}
-use Rattle.table.proofs.Examples.{benchEntries, benchParts, checks}
+use Rattle.table.proofs.Examples.{checks}
+use Rattle.table.specs.BenchTable.{benchEntries, benchParts}
 use Rattle.guarantees.specs.Calls.{Call, ending, Lent}
 use Rattle.guarantees.specs.Promises.{Runs}
 use Rattle.guarantees.specs.Demand3.{Demand3}
-use Rattle.guarantees.proofs.Night.{one-more, cut-night}
+use Rattle.guarantees.proofs.CutRecord.{one-more, cut-always-told}
 use Rattle.guarantees.proofs.Guarantees as promise
 use Rattle.guarantees.proofs.Finish.{finish-closes-parents}
 use Rattle.guarantees.proofs.Cut as cut
 
+-- demand 3 holds of every table that the check passes
 pub demand-3 : (es ps : List ℕ) → checkTable es ps ≡ Passed → Demand3 es ps
 demand-3 es ps checked = record {
   no-table-fault = λ cs c l. promise.no-table-fault es ps cs c (runs (c ∷ cs) l);
@@ -27,11 +29,12 @@ demand-3 es ps checked = record {
   at-19-full = λ cs c l. promise.at-19-full es ps cs c (runs (c ∷ cs) l);
   cut-not-finished = λ cs s l n. cut.cut-not-finished es ps cs s (runs (ending s ∷ cs) l) n;
   cut-is-told = λ cs l n. cut.cut-is-told es ps cs (one-more es ps cs (runs cs l)) n;
-  cut-night = λ cs l on n. cut-night es ps cs (runs cs l) on n;
+  cut-always-told = λ cs l on n. cut-always-told es ps cs (runs cs l) on n;
 }
   where
     runs : (cs : List Call) → Lent cs → Runs es ps cs
     runs cs l = record { checked = checked; octets = l }
 
+-- so it holds of document 01's bench table
 pub bench-guaranteed : Demand3 benchEntries benchParts
 bench-guaranteed = demand-3 benchEntries benchParts (checks .bench-passes)

@@ -1,5 +1,5 @@
--- Which masters close together: the outermost of them that is of known size is full. Closing by position (3) begins at one that is full, and closing by
--- the next ID (10) takes masters of unknown size alone. Assumes nothing.
+-- Which masters close together: the outermost of them that is of known size is full. Closing by position (3) begins at
+-- one that is full, and closing by the next ID (10) takes masters of unknown size alone. Assumes nothing.
 use Prim.Native.Nat.{ℕ, suc, _+_, _-_, _≤_, _<_}
 use mathlib.Core.Path.{_≡_, refl, sym, ap, _∙_, subst}
 use mathlib.Core.Bool.{Bool, true, false, cond, not, _&&_, false≢true}
@@ -9,29 +9,31 @@ use native.Mathlib.Omega.{arith}
 use lib.Dec.{leb}
 use lib.ListN.{length, take, drop, length-drop, length-reverse, take-append-drop}
 use lib.Seq.{take-at}
-use Rattle.table.specs.Lists.{every}
+use Rattle.basics.specs.Lists.{every, firstIndex}
 use Rattle.table.specs.Table.{Entry}
 use Rattle.spec_util.specs.Ended.{isEndedBy}
 use Rattle.spec_util.specs.declared.types.OpenTag.{OpenTag}
-use Rattle.decoder_state.specs.State.{opens, endOf}
-use Rattle.decoder_state.specs.OneCall.{isDone, firstIndex, step3, endedTops, step10}
-use Rattle.decoder_state.specs.declared.types.Given.{Given}
-use Rattle.decoder_state.specs.declared.types.Given.the-variants.{Nothing, Number}
-use Rattle.decoder_state.specs.declared.types.TagDecoder.{TagDecoder}
-use Rattle.decoder_state.proofs.Good.{and-both, both, every-append}
+use Rattle.decoder_rules.specs.Record.{opens, endOf}
+use Rattle.decoder_rules.specs.OneCall.{isFull, step3, endedTops, step10}
+use Rattle.decoder_rules.specs.declared.types.Optional.{Optional}
+use Rattle.decoder_rules.specs.declared.types.Optional.the-variants.{Nothing, Number}
+use Rattle.decoder_rules.specs.declared.types.TagDecoder.{TagDecoder}
+use Rattle.basics.proofs.Bools.{and-both, both}
+use Rattle.basics.proofs.Every.{every-append}
 use Rattle.guarantees.specs.History.{firstEnd}
 
-abbrev pub knownEnd : Bool → ℕ → Given
+-- an end, if it is known
+abbrev pub knownEnd : Bool → ℕ → Optional
 knownEnd true e = Number e
 knownEnd false e = Nothing
 
 -- a master of this end has ended at p, if its size is known
-abbrev pub endedBy : ℕ → Given → Bool
+abbrev pub endedBy : ℕ → Optional → Bool
 endedBy p Nothing = true
 endedBy p (Number e) = leb e p
 
 -- the end of the first master of known size, outermost first
-unfoldable pub firstKnown : List OpenTag → Given
+unfoldable pub firstKnown : List OpenTag → Optional
 firstKnown [] = Nothing
 firstKnown (m ∷ l) = firstEnd (knownEnd (m .known) (endOf m)) (firstKnown l)
 
@@ -39,8 +41,9 @@ firstKnown (m ∷ l) = firstEnd (knownEnd (m .known) (endOf m)) (firstKnown l)
 abbrev pub FullBatch : TagDecoder → ℕ → Type 0
 FullBatch d k = endedBy (d .position) (firstKnown (drop k (opens d))) ≡ true
 
--- ---- lists
+-- ---- tests and lists
 
+-- what passes a test from the front passes it from the back
 pub every-reversed : {A : Type 0} (test : A → Bool) (l : List A) → every test l ≡ true → every test (reverse l) ≡ true
 unfolding every
 every-reversed test [] e = refl
@@ -57,21 +60,22 @@ take-reversed l n =
 
 -- ---- 3
 
-done-known : (b : Bool) (p e : ℕ) (g : Given) → (b && leb e p) ≡ true → endedBy p (firstEnd (knownEnd b e) g) ≡ true
+done-known : (b : Bool) (p e : ℕ) (g : Optional) → (b && leb e p) ≡ true → endedBy p (firstEnd (knownEnd b e) g) ≡ true
 done-known true p e g h = h
 done-known false p e g h = absurd (false≢true h)
 
-first-full : (p : ℕ) (l : List OpenTag) → firstIndex (isDone p) l < length l → endedBy p (firstKnown (drop (firstIndex (isDone p) l) l)) ≡ true
-unfolding firstIndex firstKnown isDone
+first-full : (p : ℕ) (l : List OpenTag) → firstIndex (isFull p) l < length l → endedBy p (firstKnown (drop (firstIndex (isFull p) l) l)) ≡ true
+unfolding firstIndex firstKnown isFull
 first-full p [] h = absurd (omega arith)
 first-full p (m ∷ l) h = go (m .known && leb (endOf m) p) refl h (λ g. first-full p l g)
   where
-    go : (b : Bool) → (m .known && leb (endOf m) p) ≡ b → cond b 0 (firstIndex (isDone p) l + 1) < suc (length l)
-        → (firstIndex (isDone p) l < length l → endedBy p (firstKnown (drop (firstIndex (isDone p) l) l)) ≡ true)
-        → endedBy p (firstKnown (drop (cond b 0 (firstIndex (isDone p) l + 1)) (m ∷ l))) ≡ true
+    go : (b : Bool) → (m .known && leb (endOf m) p) ≡ b → cond b 0 (firstIndex (isFull p) l + 1) < suc (length l)
+        → (firstIndex (isFull p) l < length l → endedBy p (firstKnown (drop (firstIndex (isFull p) l) l)) ≡ true)
+        → endedBy p (firstKnown (drop (cond b 0 (firstIndex (isFull p) l + 1)) (m ∷ l))) ≡ true
     go true e h rest = done-known (m .known) p (endOf m) (firstKnown l) e
     go false e h rest = rw add-one (rest (omega arith))
 
+-- what closes by position
 pub step3-batch : (d : TagDecoder) → length (opens d) ≡ d .«open_count» → step3 d < d .«open_count» → FullBatch d (step3 d)
 step3-batch d n h = first-full (d .position) (opens d) (omega arith)
 
@@ -108,6 +112,7 @@ tops-few t x (m ∷ l) = go (not (m .known) && isEndedBy t (m .id) x) (tops-few 
     go true r = omega arith
     go false r = omega arith
 
+-- what closes by the next ID
 pub step10-batch : (t : List Entry) (d : TagDecoder) (x : ℕ) → length (opens d) ≡ d .«open_count» → step10 t d x < d .«open_count» → FullBatch d (step10 t d x)
 step10-batch t d x n h =
     let j = endedTops t x (reverse (opens d)) in

@@ -1,35 +1,20 @@
--- Document 01's D1, D2, D3 and D5 as histories: what a caller can tell from the calls and their answers, computed. Assumes nothing.
+-- Document 01's D1, D2, D3 and D5 as histories: what a caller can tell from the calls and their answers, computed.
+-- Assumes nothing.
 use Prim.Native.Nat.{ℕ}
 use mathlib.Core.Path.{_≡_, refl}
 use mathlib.Core.List.{List, [], _∷_}
-use lib.Count.{leadingZeros}
 use lib.ListN.{take, drop}
-use lib.Ieee.{nanBits, toBits, ofBits}
-use Rattle.tools.specs.Bytes.{beFrom}
-use Rattle.tools.specs.Vint.{readVint}
-use Rattle.tools.specs.Twos.{signedOf}
-use Rattle.tools.specs.Integer.{arrToU64, arrToI64}
-use Rattle.tools.specs.Float.{arrToF64, widened}
-use Rattle.utf8.specs.Rfc3629.{fits, rows, firstFit, textAfter}
-use Rattle.table.specs.Lists.{every, any}
-use Rattle.table.specs.Shape.{goodPart, goodParts, goodEntry, goodEntries, goodShape}
-use Rattle.table.specs.Check.{onlyIds}
-use Rattle.table.specs.Table.{Entry, threes, fours, boundOf, partOf, sameBound, samePart, samePath, kindOf, isMaster, isTyped, clipped, entryOf, tableOf, entryFor}
-use Rattle.spec_util.specs.Ended.{isIdOf, hasId, isParent, isSibling, isTypedRoot, isEndedBy}
-use Rattle.spec_util.specs.Walk.{overMax, underMin, isIdAt, walkGlobal, walkAt, walkPart, unknownAndEnded, walkMaster, minMet, walkEnd, goOn, walkFrom, validateTagPath}
-use Rattle.tag_parse.specs.Header.{readTagId, sizeOf, tooLong, sizedBy, sized, afterId, readHeader}
-use Rattle.tag_parse.specs.Payload.{readData}
-use Rattle.decoder_state.specs.State.{endFor, withOpen, withWaiting, withNotes, settledTo, opened, closedTo, handedOut, grownBy, grown}
-use Rattle.decoder_state.specs.OneCall.{goodOpen, goodState, refused12, refused13, isDone, firstIndex, closing, noted, step8, reaches, step9, validHeader, endedTops, element, elementOf, step11, steps10-11, steps8-11, steps6-11, step5, steps4-11, steps2-11, decide, move, apply, cutBytes, isCut, finish, closeAll, ended, decodeEof, atPlace, scan, tryRecover}
-use Rattle.decoder_state.specs.declared.types.Given.the-variants.{Nothing, Number}
-use Rattle.decoder_state.proofs.Starred.{entries, parts}
-use Rattle.guarantees.specs.Calls.{Call, decoding, ending, recovering, recordAfter, history, answerRefusal}
-use Rattle.guarantees.specs.Settling.{impliedBy, settleAt, settleWithin, settledSeen}
-use Rattle.guarantees.specs.History.{Started, declaredEnd, later, startsOpen, parentsLeft, position}
+use Rattle.guarantees.proofs.Computing.{historyComputes}
+use Rattle.table.specs.Table.{Entry, tableOf}
+use Rattle.decoder_rules.specs.EndOfInput.{finish}
+use Rattle.decoder_rules.specs.declared.types.Optional.the-variants.{Nothing, Number}
+use Rattle.table.specs.BenchTable.{benchEntries, benchParts}
+use Rattle.guarantees.specs.Calls.{Call, decoding, ending, recovering, history, answerRefusal}
+use Rattle.guarantees.specs.History.{Started, startsOpen, parentsLeft, position}
 use Rattle.guarantees.specs.Promises.{atTheEnd}
 
--- the calls of a caller who lends all that is left each time, up to the end of input: the first n calls on the bytes s, of which each takes as many as
--- this list says; latest first
+-- the calls of a caller who lends all that is left each time, up to the end of input: the first n calls on the bytes s,
+-- of which each takes as many as this list says; latest first
 unfoldable pub lending : List ℕ → List ℕ → List Call → List Call
 lending [] s made = made
 lending (n ∷ taken) s made = lending taken (drop n s) (ending s ∷ made)
@@ -44,12 +29,14 @@ abbrev d5 : List ℕ
 d5 = 0xA2 ∷ 0x81 ∷ 0x78 ∷ []
 
 abbrev bench : List Entry
-bench = tableOf entries parts
+bench = tableOf benchEntries benchParts
 
--- what a caller can tell after these calls: the Starts that are open, the implied parents that are left, and the position
+-- what a caller can tell after these calls: the Starts that are open, the implied parents that are left, and the
+-- position
 abbrev seen : List Call → List Started × List ℕ × ℕ
-seen cs = (startsOpen bench (history entries parts cs), parentsLeft parts bench (history entries parts cs), position (history entries parts cs))
+seen cs = (startsOpen bench (history benchEntries benchParts cs), parentsLeft benchParts bench (history benchEntries benchParts cs), position (history benchEntries benchParts cs))
 
+-- what is seen of these records, call by call
 pub record Seen : Type 0 where
   -- D1 after its Data, after the first End, and at the finish
   pub d1-data : seen (lending (3 ∷ 2 ∷ 3 ∷ 4 ∷ []) d1 []) ≡ (record { id = 0xA1; offset = 3; end = Number 12 } ∷ record { id = 0x4E01; offset = 0; end = Number 12 } ∷ [], [], 12)
@@ -59,7 +46,7 @@ pub record Seen : Type 0 where
   pub d2-data : seen (lending (3 ∷ 2 ∷ 3 ∷ []) d2 []) ≡ (record { id = 0xA1; offset = 3; end = Nothing } ∷ record { id = 0x4E01; offset = 0; end = Nothing } ∷ [], [], 8)
   -- D3, D1 cut after 8 bytes: Session and Feed are open and not full, and the end of input answers 23
   pub d3-data : seen (lending (3 ∷ 2 ∷ 3 ∷ []) (take 8 d1) []) ≡ (record { id = 0xA1; offset = 3; end = Number 12 } ∷ record { id = 0x4E01; offset = 0; end = Number 12 } ∷ [], [], 8)
-  pub d3-cut : answerRefusal (atTheEnd entries parts (lending (3 ∷ 2 ∷ 3 ∷ []) (take 8 d1) [])) ≡ 23
+  pub d3-cut : answerRefusal (atTheEnd benchEntries benchParts (lending (3 ∷ 2 ∷ 3 ∷ []) (take 8 d1) [])) ≡ 23
   -- D5: reading begins below the root, so that Feed and Session are implied
   pub d5-data : seen (lending (3 ∷ []) d5 []) ≡ ([], 0xA1 ∷ 0x4E01 ∷ [], 3)
   pub d5-end : seen (lending (3 ∷ 0 ∷ []) d5 []) ≡ ([], 0x4E01 ∷ [], 3)
@@ -73,8 +60,9 @@ pub record Seen : Type 0 where
   -- 13 settles nothing
   pub not-read : seen (decoding d5 ∷ ending [] ∷ []) ≡ ([], [], 0)
 
+-- and it is so
 pub seen-so : Seen
-unfolding signedOf nanBits toBits ofBits leadingZeros beFrom readVint arrToU64 arrToI64 arrToF64 widened fits rows firstFit textAfter every any goodPart goodParts goodEntry goodEntries goodShape onlyIds threes fours boundOf partOf sameBound samePart samePath kindOf isMaster clipped entryOf tableOf entryFor isIdOf hasId isTyped isParent isSibling isTypedRoot isEndedBy overMax underMin isIdAt walkGlobal walkAt walkPart unknownAndEnded walkMaster minMet walkEnd goOn walkFrom validateTagPath readTagId sizeOf tooLong sizedBy sized afterId readHeader readData endFor withOpen withWaiting withNotes settledTo opened closedTo handedOut grownBy grown goodOpen goodState refused12 refused13 isDone firstIndex closing noted step8 reaches step9 validHeader endedTops element elementOf step11 steps10-11 steps8-11 steps6-11 step5 steps4-11 steps2-11 decide move apply cutBytes isCut finish closeAll ended decodeEof scan atPlace tryRecover recordAfter history impliedBy settleAt settleWithin settledSeen declaredEnd later startsOpen parentsLeft position lending
+unfolding historyComputes lending
 seen-so = record {
   d1-data = refl;
   d1-end = refl;

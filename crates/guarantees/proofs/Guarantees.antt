@@ -1,46 +1,47 @@
--- Demand 3: what a checked table guarantees over any calls. Each theorem speaks of the last of any calls on a fresh decoder, so of each call of any run.
--- What is told are the answers of the very definitions that the contracts of the routines cite. Assumes nothing.
+-- Demand 3: what a checked table guarantees over any calls. Each theorem speaks of the last of any calls on a fresh
+-- decoder, so of each call of any run. What is told are the answers of the very definitions that the contracts of the
+-- routines cite. Assumes nothing.
 use Prim.Native.Nat.{ℕ, _+_, _≤_}
 use mathlib.Core.Path.{_≡_, refl, sym, ap, _∙_, subst}
-use mathlib.Core.Bool.{Bool, true, false, not, false≢true}
+use mathlib.Core.Bool.{Bool, true, false, false≢true}
 use mathlib.Core.List.{List, [], _∷_, map, reverse}
 use native.Mathlib.Omega.{arith}
 use borrow.Author.Tests.{leb-true, eqb-true}
 use lib.Dec.{eqb}
 use lib.ListN.{length, length-append, length-map, length-reverse}
 use Rattle.table.specs.Table.{Entry, tableOf, dataTypeOf}
-use Rattle.table.proofs.Every.{every-member}
+use Rattle.basics.proofs.Every.{every-member}
 use Rattle.tag_parse.specs.Header.{readHeader}
 use Rattle.tag_parse.specs.declared.types.ReadHeader.the-variants as header
 use Rattle.tag_parse.specs.declared.types.TagHeader.{TagHeader}
 use Rattle.tag_parse.specs.declared.types.TagValue.{TagValue}
-use Rattle.decoder_state.specs.State.{opens}
-use Rattle.decoder_state.specs.OneCall.{errorNumber}
-use Rattle.decoder_state.specs.declared.types.Answer.the-variants as answer
-use Rattle.decoder_state.specs.declared.types.DecodeError.{DecodeError}
-use Rattle.decoder_state.specs.declared.types.Event.{Event}
-use Rattle.decoder_state.specs.declared.types.Event.the-variants as event
-use Rattle.decoder_state.specs.declared.types.Given.{Given}
-use Rattle.decoder_state.specs.declared.types.Given.the-variants.{Number}
-use Rattle.decoder_state.specs.declared.types.Search.the-variants as search
-use Rattle.decoder_state.specs.declared.types.TagDecoder.{TagDecoder}
-use Rattle.decoder_state.proofs.Good.{both}
-use Rattle.decoder_state.proofs.Kept.{opens-length, waits-length}
-use Rattle.tag_decoder.specs.Settings.{isFinished}
-use Rattle.decoder_decide.proofs.Judged.{cond-yes}
-use Rattle.guarantees.specs.Calls.{Call, decoding, ending, recovering, allow, limit, lent, Told, answered, searched, silent, toldBy, recordAfter, history, Lent, refusalOf}
-use Rattle.guarantees.specs.Settling.{settledSeen, seenParents}
-use Rattle.guarantees.specs.History.{Started, declaredEnd, afterTold, afterDeclared, startsOpen, startsDeclared, parentsLeft, position, testAfter, childTestOn, childTestNeverOff, isNoRecovery, neverRecovered}
-use Rattle.guarantees.specs.Promises.{eventKind, eventId, elementOffset, Runs, lastTold, Answers, openAt, leftAt, placeAt, EndMatches, EndsInside}
+use Rattle.decoder_rules.specs.Record.{opens}
+use Rattle.decoder_rules.specs.Numbers.{errorNumber}
+use Rattle.decoder_rules.specs.declared.types.Answer.the-variants as answer
+use Rattle.decoder_rules.specs.declared.types.DecodeError.{DecodeError}
+use Rattle.decoder_rules.specs.declared.types.Event.{Event}
+use Rattle.decoder_rules.specs.declared.types.Event.the-variants as event
+use Rattle.decoder_rules.specs.declared.types.Optional.{Optional}
+use Rattle.decoder_rules.specs.declared.types.Optional.the-variants.{Number}
+use Rattle.decoder_rules.specs.declared.types.Search.the-variants as search
+use Rattle.decoder_rules.specs.declared.types.TagDecoder.{TagDecoder}
+use Rattle.decoder_rules.specs.declared.types.WaitingEnd.{WaitingEnd}
+use Rattle.basics.proofs.Bools.{both, cond-yes, not-false}
+use Rattle.decoder_rules.proofs.MoveEffects.{opens-length, waits-length}
+use Rattle.decoder_rules.specs.Settings.{isFinished}
+use Rattle.guarantees.specs.Calls.{Call, decoding, ending, recovering, allow, limit, lent, Response, answered, searched, silent, responseTo, recordAfter, history, Lent, refusalOf}
+use Rattle.guarantees.specs.Settling.{hasSettled, seenParents}
+use Rattle.guarantees.specs.History.{Started, declaredEnd, afterResponse, afterDeclared, startsOpen, startsDeclared, parentsLeft, position, testAfter, childTestOn, childTestNeverOff, isNoRecovery, neverRecovered}
+use Rattle.guarantees.specs.Promises.{eventKind, eventId, elementOffset, Runs, lastResponse, Answers, openAt, leftAt, positionAt, EndMatches, EndsInside}
 use Rattle.guarantees.proofs.Tied.{parentOf, asEnd, asStarted, stack, Tied, none-open}
 use Rattle.guarantees.proofs.Steps.{reachesTo, allReach, Ends, ElementFacts, EventFacts, RefusalFacts, no-starts}
-use Rattle.guarantees.proofs.AnyCalls.{ToldFacts, MeasuredTold, settled-after, tied-after, promised-after, test-after}
+use Rattle.guarantees.proofs.AnyCalls.{ResponseFacts, MeasuredResponse, settled-after, tied-after, promised-after, test-after}
 
 -- ---- the refusals
 
 -- a number that no refusal has
 never : (t : List Entry) (off : Bool) (s : List ℕ) (starts : List Started) (left : List ℕ) (p m : ℕ) → (m ≡ 0 → ⊥) → (m ≡ 12 → ⊥)
-    → ((e : DecodeError) → RefusalFacts t off s starts left p e → errorNumber e ≡ m → ⊥) → (x : Told) → ToldFacts t off s starts left p x → refusalOf x ≡ m → ⊥
+    → ((e : DecodeError) → RefusalFacts t off s starts left p e → errorNumber e ≡ m → ⊥) → (x : Response) → ResponseFacts t off s starts left p x → refusalOf x ≡ m → ⊥
 never t off s starts left p m z w f (answered (answer.Event e) n) k q = z (sym q)
 never t off s starts left p m z w f (answered answer.NeedMore n) k q = z (sym q)
 never t off s starts left p m z w f (answered answer.Finished n) k q = z (sym q)
@@ -51,7 +52,7 @@ never t off s starts left p m z w f (searched (search.Refused r) n) k q = w (sym
 never t off s starts left p m z w f silent k q = z (sym q)
 
 -- 19 comes only where 32 masters are open, those that are implied with them
-full-at-19 : (t : List Entry) (off : Bool) (s : List ℕ) (starts : List Started) (left : List ℕ) (p : ℕ) (x : Told) → ToldFacts t off s starts left p x → refusalOf x ≡ 19
+full-at-19 : (t : List Entry) (off : Bool) (s : List ℕ) (starts : List Started) (left : List ℕ) (p : ℕ) (x : Response) → ResponseFacts t off s starts left p x → refusalOf x ≡ 19
     → length (stack starts left) ≡ 32
 full-at-19 t off s starts left p (answered (answer.Event e) n) k q = absurd (omega arith)
 full-at-19 t off s starts left p (answered answer.NeedMore n) k q = absurd (omega arith)
@@ -66,22 +67,22 @@ full-at-19 t off s starts left p silent k q = absurd (omega arith)
 
 kind-of : (t : List Entry) (off : Bool) (s : List ℕ) (starts : List Started) (left : List ℕ) (p : ℕ) (e : Event) → EventFacts t off s starts left p e → eventKind e ≡ dataTypeOf t (eventId e)
 kind-of t off s starts left p (event.Start x o) f = sym (f .0)
-kind-of t off s starts left p (event.End x o) f = sym (f .0)
+kind-of t off s starts left p (event.End end) f = sym (f .0)
 kind-of t off s starts left p (event.Data x o v) f = f .0
 
 element-of : (t : List Entry) (off : Bool) (s : List ℕ) (starts : List Started) (left : List ℕ) (p : ℕ) (e : Event) (o : ℕ) → EventFacts t off s starts left p e → elementOffset e ≡ Number o
     → ElementFacts t off s starts p (eventId e) o
 element-of t off s starts left p (event.Start x q) o f e = let z : q ≡ o = cc in subst (ElementFacts t off s starts p x) z (f .1)
-element-of t off s starts left p (event.End x q) o f e = let z : _≡_ {A = ℕ} 0 1 = cc in absurd (omega arith)
+element-of t off s starts left p (event.End end) o f e = let z : _≡_ {A = ℕ} 0 1 = cc in absurd (omega arith)
 element-of t off s starts left p (event.Data x q v) o f e = let z : q ≡ o = cc in subst (ElementFacts t off s starts p x) z (f .1)
 
 reached : (e : ℕ) (starts : List Started) → allReach e starts ≡ true → EndsInside e starts
-reached e starts h m i f k = leb-true e f (subst (λ (g : Given). reachesTo e g ≡ true) k (every-member (λ (m : Started). reachesTo e (m .end)) h i))
+reached e starts h m i f k = leb-true e f (subst (λ (g : Optional). reachesTo e g ≡ true) k (every-member (λ (m : Started). reachesTo e (m .end)) h i))
 
 -- ---- the declared ends, where no call was a recovery
 
 module _ (es ps : List ℕ) where
-  declared-step : (d : TagDecoder) (c : Call) (l : List Started) → isNoRecovery c ≡ true → afterTold (tableOf es ps) (lent c) (toldBy es ps d c) l ≡ afterDeclared (tableOf es ps) (lent c) (toldBy es ps d c) l
+  declared-step : (d : TagDecoder) (c : Call) (l : List Started) → isNoRecovery c ≡ true → afterResponse (tableOf es ps) (lent c) (responseTo es ps d c) l ≡ afterDeclared (tableOf es ps) (lent c) (responseTo es ps d c) l
   declared-step d (decoding s) l h = refl
   declared-step d (ending s) l h = refl
   declared-step d (recovering s) l h = absurd (false≢true h)
@@ -93,114 +94,112 @@ module _ (es ps : List ℕ) where
   declared-so [] h = refl
   declared-so (c ∷ cs) h =
       let b = both (isNoRecovery c) (neverRecovered cs) h in
-      declared-step (recordAfter es ps cs) c (openAt es ps cs) (b .left) ∙ ap (afterDeclared (tableOf es ps) (lent c) (toldBy es ps (recordAfter es ps cs) c)) (declared-so cs (b .right))
+      declared-step (recordAfter es ps cs) c (openAt es ps cs) (b .left) ∙ ap (afterDeclared (tableOf es ps) (lent c) (responseTo es ps (recordAfter es ps cs) c)) (declared-so cs (b .right))
 
+-- a test that was never off is on
 pub never-off-on : (cs : List Call) → childTestNeverOff cs ≡ true → childTestOn cs ≡ true
 unfolding childTestNeverOff childTestOn
 never-off-on [] h = refl
 never-off-on (c ∷ cs) h = let b = both (testAfter c true) (childTestNeverOff cs) h in ap (testAfter c) (never-off-on cs (b .right)) ∙ b .left
 
-pub not-false : (b : Bool) → not b ≡ true → b ≡ false
-not-false true e = absurd (false≢true e)
-not-false false e = refl
-
 -- ==== the promises
 
 module _ (es ps : List ℕ) (cs : List Call) (c : Call) (run : Runs es ps (c ∷ cs)) where
   -- what was proved of the last call
-  facts : (x : Told) → lastTold es ps cs c ≡ x → ToldFacts (tableOf es ps) (recordAfter es ps cs .«allow_oversized») (lent c) (openAt es ps cs) (leftAt es ps cs c) (placeAt es ps cs) x
-  facts x e = subst (ToldFacts (tableOf es ps) (recordAfter es ps cs .«allow_oversized») (lent c) (openAt es ps cs) (leftAt es ps cs c) (placeAt es ps cs)) e (promised-after es ps cs c run .promised)
+  facts : (x : Response) → lastResponse es ps cs c ≡ x → ResponseFacts (tableOf es ps) (recordAfter es ps cs .settings .«allow_oversized») (lent c) (openAt es ps cs) (leftAt es ps cs c) (positionAt es ps cs) x
+  facts x e = subst (ResponseFacts (tableOf es ps) (recordAfter es ps cs .settings .«allow_oversized») (lent c) (openAt es ps cs) (leftAt es ps cs c) (positionAt es ps cs)) e (promised-after es ps cs c run .promised)
 
   no-refusal : (m : ℕ) → (m ≡ 0 → ⊥) → (m ≡ 12 → ⊥)
-      → ((e : DecodeError) → RefusalFacts (tableOf es ps) (recordAfter es ps cs .«allow_oversized») (lent c) (openAt es ps cs) (leftAt es ps cs c) (placeAt es ps cs) e → errorNumber e ≡ m → ⊥)
-      → refusalOf (lastTold es ps cs c) ≡ m → ⊥
+      → ((e : DecodeError) → RefusalFacts (tableOf es ps) (recordAfter es ps cs .settings .«allow_oversized») (lent c) (openAt es ps cs) (leftAt es ps cs c) (positionAt es ps cs) e → errorNumber e ≡ m → ⊥)
+      → refusalOf (lastResponse es ps cs c) ≡ m → ⊥
   no-refusal m z w f =
-      never (tableOf es ps) (recordAfter es ps cs .«allow_oversized») (lent c) (openAt es ps cs) (leftAt es ps cs c) (placeAt es ps cs) m z w f (lastTold es ps cs c) (facts (lastTold es ps cs c) refl)
+      never (tableOf es ps) (recordAfter es ps cs .settings .«allow_oversized») (lent c) (openAt es ps cs) (leftAt es ps cs c) (positionAt es ps cs) m z w f (lastResponse es ps cs c) (facts (lastResponse es ps cs c) refl)
 
-  -- 1. "The refusal "table fault" (24) never comes."
-  pub no-table-fault : refusalOf (lastTold es ps cs c) ≡ 24 → ⊥
+  -- 1. The refusal of a table fault, 24, never comes.
+  pub no-table-fault : refusalOf (lastResponse es ps cs c) ≡ 24 → ⊥
   no-table-fault = no-refusal 24 (omega arith) (omega arith) (λ e f q. f .not-24 q)
 
-  -- "refusal 11 never comes from a fresh decoder"; nor does 10
-  pub no-bad-state : refusalOf (lastTold es ps cs c) ≡ 11 → ⊥
+  -- the refusal of a bad state, 11, never comes
+  pub no-bad-state : refusalOf (lastResponse es ps cs c) ≡ 11 → ⊥
   no-bad-state = no-refusal 11 (omega arith) (omega arith) (λ e f q. f .not-11 q)
 
-  pub no-bad-shape : refusalOf (lastTold es ps cs c) ≡ 10 → ⊥
+  -- nor does that of a bad shape, 10
+  pub no-bad-shape : refusalOf (lastResponse es ps cs c) ≡ 10 → ⊥
   no-bad-shape = no-refusal 10 (omega arith) (omega arith) (λ e f q. f .not-10 q)
 
-  -- 2. "Each event has the kind that the table gives its ID, or is raw where it gives none."
+  -- 2. Each event has the kind that the table gives its ID, or is raw where it gives none.
   pub kind-of-table : (e : Event) → Answers es ps cs c (answer.Event e) → eventKind e ≡ dataTypeOf (tableOf es ps) (eventId e)
-  kind-of-table e a = kind-of (tableOf es ps) (recordAfter es ps cs .«allow_oversized») (lent c) (openAt es ps cs) (leftAt es ps cs c) (placeAt es ps cs) e (facts _ (a .1))
+  kind-of-table e a = kind-of (tableOf es ps) (recordAfter es ps cs .settings .«allow_oversized») (lent c) (openAt es ps cs) (leftAt es ps cs c) (positionAt es ps cs) e (facts _ (a .1))
 
-  -- 3. "Each End names the last Start still open or, where none is open, the innermost parent left of those implied because reading began below the
-  -- root. (Start and its End also agree in offset; an implied parent's is 0.)"
-  pub end-matches : (x o : ℕ) → Answers es ps cs c (answer.Event (event.End x o)) → EndMatches (openAt es ps cs) (leftAt es ps cs c) x o
-  end-matches x o a = facts _ (a .1) .1
+  -- 3. Each End names the last Start still open or, where none is open, the innermost implied parent that is left, with
+  -- its offset.
+  pub end-matches : (end : WaitingEnd) → Answers es ps cs c (answer.Event (event.End end)) → EndMatches (openAt es ps cs) (leftAt es ps cs c) end
+  end-matches end a = facts _ (a .1) .1
 
   -- parents are implied only where no Start is open and no parent is left, so before all Starts
-  pub implied-first : (seenParents ps (tableOf es ps) (history es ps cs) (lent c) (lastTold es ps cs c) ≡ [] → ⊥)
+  pub implied-first : (seenParents ps (tableOf es ps) (history es ps cs) (lent c) (lastResponse es ps cs c) ≡ [] → ⊥)
       → (openAt es ps cs ≡ []) × (parentsLeft ps (tableOf es ps) (history es ps cs) ≡ [])
   unfolding Lent
   implied-first some = go (recordAfter es ps cs .settled) refl
     where
-      k : Tied (tableOf es ps) (recordAfter es ps cs) (openAt es ps cs) (parentsLeft ps (tableOf es ps) (history es ps cs)) (placeAt es ps cs)
+      k : Tied (tableOf es ps) (recordAfter es ps cs) (openAt es ps cs) (parentsLeft ps (tableOf es ps) (history es ps cs)) (positionAt es ps cs)
       k = tied-after es ps (run .checked) cs (run .octets .1)
 
       go : (b : Bool) → recordAfter es ps cs .settled ≡ b → (openAt es ps cs ≡ []) × (parentsLeft ps (tableOf es ps) (history es ps cs) ≡ [])
-      go true u = absurd (some (cond-yes (settledSeen ps (tableOf es ps) (history es ps cs)) [] _ (sym (settled-after es ps (run .checked) cs (run .octets .1)) ∙ u)))
+      go true u = absurd (some (cond-yes (hasSettled (tableOf es ps) (history es ps cs)) [] _ (sym (settled-after es ps (run .checked) cs (run .octets .1)) ∙ u)))
       go false u = none-open (openAt es ps cs) (parentsLeft ps (tableOf es ps) (history es ps cs)) (k .linked .unsettled u)
 
   -- and the offset of a Start or a Data is the position, the count of all bytes taken before it
-  pub offset-is-position : (e : Event) (o : ℕ) → elementOffset e ≡ Number o → Answers es ps cs c (answer.Event e) → o ≡ placeAt es ps cs
-  offset-is-position e o i a = element-of (tableOf es ps) (recordAfter es ps cs .«allow_oversized») (lent c) (openAt es ps cs) (leftAt es ps cs c) (placeAt es ps cs) e o (facts _ (a .1)) i .offset
+  pub offset-is-position : (e : Event) (o : ℕ) → elementOffset e ≡ Number o → Answers es ps cs c (answer.Event e) → o ≡ positionAt es ps cs
+  offset-is-position e o i a = element-of (tableOf es ps) (recordAfter es ps cs .settings .«allow_oversized») (lent c) (openAt es ps cs) (leftAt es ps cs c) (positionAt es ps cs) e o (facts _ (a .1)) i .offset
 
   -- the element is the one whose header stands at the front of the bytes lent, so that `declaredEnd` of them is its end
   pub element-header : (e : Event) (o : ℕ) → elementOffset e ≡ Number o → Answers es ps cs c (answer.Event e)
       → (h : TagHeader) × (readHeader (tableOf es ps) (lent c) ≡ header.Header h) × (h .id ≡ eventId e)
   element-header e o i a =
-      let f = element-of (tableOf es ps) (recordAfter es ps cs .«allow_oversized») (lent c) (openAt es ps cs) (leftAt es ps cs c) (placeAt es ps cs) e o (facts _ (a .1)) i .heads in
+      let f = element-of (tableOf es ps) (recordAfter es ps cs .settings .«allow_oversized») (lent c) (openAt es ps cs) (leftAt es ps cs c) (positionAt es ps cs) e o (facts _ (a .1)) i .heads in
       (f .its, f .is-read, f .same-id)
 
-  -- 4. "When the finish is answered, every Start has had its End."
+  -- 4. When the finish is answered, every Start has had its End.
   pub finish-closes : Answers es ps cs c answer.Finished → openAt es ps cs ≡ []
   finish-closes a = facts _ (a .1)
 
-  -- 5. with the child-size test on at this call, whatever was done before: each element of known size ends inside every master of known size then open,
-  -- as recoveries let these grow
+  -- 5. with the child-size test on at this call, whatever was done before: each element of known size ends inside every
+  -- master of known size then open, as recoveries let these grow
   pub ends-inside : childTestOn cs ≡ true → (e : Event) (o end : ℕ) → elementOffset e ≡ Number o → Answers es ps cs c (answer.Event e)
       → declaredEnd (tableOf es ps) o (lent c) ≡ Number end → EndsInside end (openAt es ps cs)
   unfolding Lent
   ends-inside on e o end i a k =
-      let off : Bool = recordAfter es ps cs .«allow_oversized» in
-      let f : ElementFacts (tableOf es ps) off (lent c) (openAt es ps cs) (placeAt es ps cs) (eventId e) o =
-      element-of (tableOf es ps) off (lent c) (openAt es ps cs) (leftAt es ps cs c) (placeAt es ps cs) e o (facts _ (a .1)) i in
-      let k' : declaredEnd (tableOf es ps) (placeAt es ps cs) (lent c) ≡ Number end = subst (λ (q : ℕ). declaredEnd (tableOf es ps) q (lent c) ≡ Number end) (f .offset) k in
+      let off : Bool = recordAfter es ps cs .settings .«allow_oversized» in
+      let f : ElementFacts (tableOf es ps) off (lent c) (openAt es ps cs) (positionAt es ps cs) (eventId e) o =
+      element-of (tableOf es ps) off (lent c) (openAt es ps cs) (leftAt es ps cs c) (positionAt es ps cs) e o (facts _ (a .1)) i in
+      let k' : declaredEnd (tableOf es ps) (positionAt es ps cs) (lent c) ≡ Number end = subst (λ (q : ℕ). declaredEnd (tableOf es ps) q (lent c) ≡ Number end) (f .offset) k in
       let is-on : off ≡ false = not-false off (test-after es ps (run .checked) cs (run .octets .1) ∙ on) in
-      let g : Ends off (Number end) (openAt es ps cs) = subst (λ (z : Given). Ends off z (openAt es ps cs)) k' (f .inside) in
+      let g : Ends off (Number end) (openAt es ps cs) = subst (λ (z : Optional). Ends off z (openAt es ps cs)) k' (f .inside) in
       reached end (openAt es ps cs) (g is-on)
 
-  -- 5. "If the child-size test was never switched off and there was no recovery, each element of known size (Start or Data) ends inside every master of
-  -- known size then open." The ends are those that the headers declared.
+  -- 5. If the child-size test was never switched off and there was no recovery, each element of known size ends inside
+  -- every master of known size then open. The ends are those that the headers declared.
   pub element-ends-inside : childTestNeverOff cs ≡ true → neverRecovered cs ≡ true → (e : Event) (o end : ℕ) → elementOffset e ≡ Number o
       → Answers es ps cs c (answer.Event e) → declaredEnd (tableOf es ps) o (lent c) ≡ Number end → EndsInside end (startsDeclared (tableOf es ps) (history es ps cs))
   element-ends-inside on none e o end i a k = subst (EndsInside end) (declared-so es ps cs none) (ends-inside (never-off-on cs on) e o end i a k)
 
   -- a Data is always of known size, and the call takes it whole
-  pub data-whole : (x o n : ℕ) (v : TagValue) → lastTold es ps cs c ≡ answered (answer.Event (event.Data x o v)) n → declaredEnd (tableOf es ps) o (lent c) ≡ Number (o + n)
+  pub data-whole : (x o n : ℕ) (v : TagValue) → lastResponse es ps cs c ≡ answered (answer.Event (event.Data x o v)) n → declaredEnd (tableOf es ps) o (lent c) ≡ Number (o + n)
   data-whole x o n v q =
-      let m : MeasuredTold (tableOf es ps) (lent c) (placeAt es ps cs) (answered (answer.Event (event.Data x o v)) n) = subst (MeasuredTold (tableOf es ps) (lent c) (placeAt es ps cs)) q (promised-after es ps cs c run .measured) in
+      let m : MeasuredResponse (tableOf es ps) (lent c) (positionAt es ps cs) (answered (answer.Event (event.Data x o v)) n) = subst (MeasuredResponse (tableOf es ps) (lent c) (positionAt es ps cs)) q (promised-after es ps cs c run .measured) in
       subst (λ (p : ℕ). declaredEnd (tableOf es ps) p (lent c) ≡ Number (p + n)) (sym (offset-is-position (event.Data x o v) o refl (n, q))) m
 
   -- 19 comes only where 32 masters are open, the implied parents with them
-  pub at-19-full : refusalOf (lastTold es ps cs c) ≡ 19 → length (openAt es ps cs) + length (leftAt es ps cs c) ≡ 32
+  pub at-19-full : refusalOf (lastResponse es ps cs c) ≡ 19 → length (openAt es ps cs) + length (leftAt es ps cs c) ≡ 32
   at-19-full q =
-      let n = full-at-19 (tableOf es ps) (recordAfter es ps cs .«allow_oversized») (lent c) (openAt es ps cs) (leftAt es ps cs c) (placeAt es ps cs) (lastTold es ps cs c) (facts _ refl) q in
+      let n = full-at-19 (tableOf es ps) (recordAfter es ps cs .settings .«allow_oversized») (lent c) (openAt es ps cs) (leftAt es ps cs c) (positionAt es ps cs) (lastResponse es ps cs c) (facts _ refl) q in
       omega (arith, n, length-append (openAt es ps cs) (map parentOf (leftAt es ps cs c)), length-map (leftAt es ps cs c) parentOf)
 
 -- ---- limits, after any calls
 
 module _ (es ps : List ℕ) (cs : List Call) (run : Runs es ps cs) where
-  tied-now : Tied (tableOf es ps) (recordAfter es ps cs) (openAt es ps cs) (parentsLeft ps (tableOf es ps) (history es ps cs)) (placeAt es ps cs)
+  tied-now : Tied (tableOf es ps) (recordAfter es ps cs) (openAt es ps cs) (parentsLeft ps (tableOf es ps) (history es ps cs)) (positionAt es ps cs)
   tied-now = tied-after es ps (run .checked) cs (run .octets)
 
   -- at most 32 Ends are still to come
@@ -227,5 +226,5 @@ module _ (es ps : List ℕ) (cs : List Call) (run : Runs es ps cs) where
       no-starts (openAt es ps cs) (omega (arith, tied-now .finished (b .left)))
 
   -- the record's position is the count of all bytes taken
-  pub position-is-taken : recordAfter es ps cs .position ≡ placeAt es ps cs
+  pub position-is-taken : recordAfter es ps cs .position ≡ positionAt es ps cs
   position-is-taken = tied-now .linked .place

@@ -7,12 +7,14 @@ pub mod Outermost
 pub mod Moves
 pub mod Steps
 pub mod Recovery
-pub mod Seen
+pub mod ImpliedParentsVisible
 pub mod AnyCalls
 pub mod Guarantees
 pub mod Finish
 pub mod Cut
 pub mod Nested
-pub mod Night
+pub mod CutRecord
 pub mod Demand3
+pub mod EmptyPlaces
 pub mod Needed
+pub mod Computing

@@ -1,40 +1,42 @@
 -- Each move of the record keeps what ties it to what a caller can tell. Assumes nothing.
-use Prim.Native.Nat.{ℕ, suc, _+_, _-_, _^_, _≤_, _<_}
+use Prim.Native.Nat.{ℕ, suc, _+_, _^_, _≤_, _<_}
 use mathlib.Core.Path.{_≡_, refl, sym, ap, _∙_}
 use mathlib.Core.Bool.{Bool, true, false, true≢false}
 use mathlib.Core.List.{List, [], _∷_, _++_, map, reverse, append-nil, map-append, map-map, reverse-append, reverse-cons}
 use native.Mathlib.Omega.{arith}
-use lib.ListN.{length, getD, take, drop, length-map, length-reverse, take-append-drop}
-use lib.Seq.{getD-take, take-suc, drop-append-le, length-take-le}
-use Rattle.table.specs.Lists.{every}
+use lib.ListN.{length, getD, take, drop, length-map, length-reverse, length-drop, take-append-drop}
+use lib.Seq.{getD-take, drop-cons}
+use Rattle.basics.specs.Lists.{every}
 use Rattle.table.specs.Table.{Entry, dataTypeOf, isMaster}
 use Rattle.table.specs.declared.types.PathPart.{PathPart}
 use Rattle.table.specs.declared.types.PathPart.the-variants.{Id, Global}
 use Rattle.spec_util.specs.declared.types.OpenTag.{OpenTag}
 use Rattle.spec_util.specs.Walk.{noTag}
-use Rattle.decoder_state.specs.State.{opens, endOf, endFor, noEnd, implied, withOpen, withWaiting, withNotes, settledTo, opened, closedTo, handedOut, grownBy, grown}
-use Rattle.decoder_state.specs.OneCall.{goodOpen}
-use Rattle.decoder_state.specs.declared.types.Given.{Given}
-use Rattle.decoder_state.specs.declared.types.Given.the-variants.{Number}
-use Rattle.decoder_state.specs.declared.types.WaitingEnd.{WaitingEnd}
-use Rattle.decoder_state.specs.declared.types.TagDecoder.{TagDecoder}
-use Rattle.decoder_state.proofs.Good.{GoodState, every-append, every-take, every-map, and-both, both}
-use Rattle.decoder_state.proofs.Kept.{waits, opens-length, waits-length, with-notes-arrays, settled-opens, settled-arrays, opened-opens, opened-arrays, closed-opens, closed-waits, closed-arrays, handed-waits, handed-arrays, grown-opens, grown-arrays}
-use Rattle.decoder_state.proofs.Stays.{with-notes-good, settled-good, opened-good, closed-good, handed-good}
-use Rattle.decoder_decide.proofs.Judged.{pick}
-use Rattle.tag_decoder.specs.Settings.{withSettings}
+use Rattle.decoder_rules.specs.Record.{opens, endOf, endFor, noEnd, implied, withSettings, withOpen, withWaiting, withNotes, settledTo, opened, endsFrom, closedTo, handedOut, sizeGrown, withSizesGrown, waits}
+use Rattle.decoder_rules.specs.OneCall.{goodOpen}
+use Rattle.decoder_rules.specs.declared.types.Optional.{Optional}
+use Rattle.decoder_rules.specs.declared.types.Optional.the-variants.{Number}
+use Rattle.decoder_rules.specs.declared.types.Settings.{Settings}
+use Rattle.decoder_rules.specs.declared.types.WaitingEnd.{WaitingEnd}
+use Rattle.decoder_rules.specs.declared.types.TagDecoder.{TagDecoder}
+use Rattle.decoder_rules.proofs.GoodState.{GoodState}
+use Rattle.basics.proofs.Every.{every-append, every-take, every-map}
+use Rattle.basics.proofs.Bools.{and-both, both, pick}
+use Rattle.decoder_rules.proofs.MoveEffects.{opens-length, waits-length, with-notes-arrays, settled-opens, settled-arrays, opened-opens, opened-arrays, closed-opens, closed-waits, closed-arrays, handed-waits, handed-arrays, grown-opens, grown-arrays}
+use Rattle.decoder_rules.proofs.MovesKeepGoodState.{with-notes-good, settled-good, opened-good, closed-good, handed-good}
 use Rattle.guarantees.specs.History.{Started, laterEnd, later, leftByEnd}
 use Rattle.guarantees.specs.Promises.{EndMatches}
 use Rattle.guarantees.proofs.Ends.{knownEnd, every-reversed}
-use Rattle.guarantees.proofs.Decided.{allMasters}
+use Rattle.decoder_rules.proofs.Exits.{allMasters}
 use Rattle.guarantees.proofs.Tied.{asStarted, parentOf, asEnd, stack, allStarted, Linked, map-same, popped, none-open, both-empty}
 
 -- ---- settings, and the position
 
 module _ (t : List Entry) (d : TagDecoder) (starts : List Started) (left : List ℕ) (p : ℕ) (k : Linked t d starts left p) where
-  pub settings-linked : (ids hierarchy oversized given : Bool) (max : ℕ) → Linked t (withSettings d ids hierarchy oversized given max) starts left p
+  -- other settings
+  pub settings-linked : (s : Settings) → Linked t (withSettings d s) starts left p
   unfolding withSettings
-  settings-linked ids hierarchy oversized given max = record {
+  settings-linked s = record {
     arrays = record { masters = k .arrays .masters; ends = k .arrays .ends };
     good = record { open-count = k .good .open-count; waiting-count = k .good .waiting-count; place = k .good .place; masters = k .good .masters };
     masters = k .masters;
@@ -47,6 +49,7 @@ module _ (t : List Entry) (d : TagDecoder) (starts : List Started) (left : List 
     unsettled = k .unsettled;
   }
 
+  -- a position further on
   pub moved-linked : (q : ℕ) (f : Bool) → d .position ≤ q → q ≤ 2 ^ 62 → Linked t (withNotes d q (d .settled) f) starts left q
   unfolding withNotes
   moved-linked q f h l = record {
@@ -95,6 +98,7 @@ settled-parts : (starts : List Started) (left : List ℕ) (ended : List Started)
 settled-parts starts left ended path p q r = rw (p, q, r, append-nil) (as-parents path)
 
 module _ (t : List Entry) (d : TagDecoder) (starts : List Started) (left : List ℕ) (p : ℕ) (k : Linked t d starts left p) where
+  -- the record settles: the parents of the path are implied
   pub settled-linked : (path : List PathPart) → d .settled ≡ false → allMasters t (map implied path) ≡ true → length path ≤ 32
       → Linked t (settledTo d path) starts (map (λ (m : OpenTag). m .id) (reverse (map implied path)) ++ left) p
   unfolding settledTo withOpen withNotes every
@@ -117,6 +121,7 @@ module _ (t : List Entry) (d : TagDecoder) (starts : List Started) (left : List 
 
   -- ---- a Start
 
+  -- a master starts
   pub opened-linked : (m : OpenTag) → d .«waiting_count» ≡ 0 → d .settled ≡ true → d .«open_count» < 32 → goodOpen (d .position) m ≡ true
       → isMaster (dataTypeOf t (m .id)) ≡ true → Linked t (opened d m) (asStarted m ∷ starts) left p
   unfolding opened withOpen every
@@ -140,10 +145,10 @@ module _ (t : List Entry) (d : TagDecoder) (starts : List Started) (left : List 
 
 -- ---- an End
 
--- an End of ID x and offset o is handed out, and e is the record after it
-pub record Popped (t : List Entry) (e : TagDecoder) (starts : List Started) (left : List ℕ) (p x o : ℕ) : Type 0 where
-  pub matches : EndMatches starts left x o
-  pub master : isMaster (dataTypeOf t x) ≡ true
+-- this End is handed out, and e is the record after it
+pub record Popped (t : List Entry) (e : TagDecoder) (starts : List Started) (left : List ℕ) (p : ℕ) (end : WaitingEnd) : Type 0 where
+  pub matches : EndMatches starts left end
+  pub master : isMaster (dataTypeOf t (end .id)) ≡ true
   pub linked : Linked t e (drop 1 starts) (leftByEnd starts left) p
 
 cons-settled : {m : Started} {rest l : List Started} → l ≡ m ∷ rest → l ≡ [] → ⊥
@@ -164,7 +169,7 @@ module _ (t : List Entry) (d : TagDecoder) (starts : List Started) (left : List 
     few-left = rw (popped starts left m rest e .1) (let h : suc (length rest) ≤ 32 = rw e at (k .few) in omega arith)
 
   handed-go : (ended : List Started) → map asEnd ended ≡ waits d → stack starts left ≡ ended ++ map asStarted (reverse (opens d)) → 0 < d .«waiting_count»
-      → Popped t (handedOut d) starts left p (getD (d .waiting) 0 noEnd .id) (getD (d .waiting) 0 noEnd .offset)
+      → Popped t (handedOut d) starts left p (getD (d .waiting) 0 noEnd)
   unfolding handedOut withWaiting
   handed-go [] w e h =
       let n : length (waits d) ≡ d .«waiting_count» = waits-length d (k .arrays) (k .good .waiting-count) in
@@ -190,29 +195,25 @@ module _ (t : List Entry) (d : TagDecoder) (starts : List Started) (left : List 
         };
       }
 
-  pub handed-linked : 0 < d .«waiting_count» → Popped t (handedOut d) starts left p (getD (d .waiting) 0 noEnd .id) (getD (d .waiting) 0 noEnd .offset)
+  -- a waiting End is handed out
+  pub handed-linked : 0 < d .«waiting_count» → Popped t (handedOut d) starts left p (getD (d .waiting) 0 noEnd)
   handed-linked h = handed-go (k .ended) (k .waiting) (k .parts) h
 
   -- ---- the masters above the first n close
 
   module _ (n : ℕ) (none : d .«waiting_count» ≡ 0) (h : n < d .«open_count») where
     top : OpenTag
-    top = getD (d .«open») (d .«open_count» - 1) noTag
+    top = getD (reverse (drop n (opens d))) 0 noTag
 
     others : List OpenTag
-    others = reverse (drop n (take (d .«open_count» - 1) (d .«open»)))
+    others = drop 1 (reverse (drop n (opens d)))
 
     -- the innermost of them, and then the others
     top-first : reverse (drop n (opens d)) ≡ top ∷ others
     unfolding top others
     top-first =
-        let c : d .«open_count» ≡ suc (d .«open_count» - 1) = omega arith in
-        let l : d .«open_count» - 1 < length (d .«open») = omega (arith, k .arrays .masters, k .good .open-count) in
-        let s : length (take (d .«open_count» - 1) (d .«open»)) ≡ d .«open_count» - 1 = length-take-le (d .«open_count» - 1) (d .«open») (omega arith) in
-        ap (λ (i : ℕ). reverse (drop n (take i (d .«open»)))) c
-        ∙ ap (λ (l : List OpenTag). reverse (drop n l)) (take-suc (d .«open») (d .«open_count» - 1) noTag l)
-        ∙ ap reverse (drop-append-le n (take (d .«open_count» - 1) (d .«open»)) (getD (d .«open») (d .«open_count» - 1) noTag ∷ []) (omega arith))
-        ∙ reverse-append (drop n (take (d .«open_count» - 1) (d .«open»))) (getD (d .«open») (d .«open_count» - 1) noTag ∷ [])
+        drop-cons (reverse (drop n (opens d))) 0 noTag
+        (simp (length-reverse, length-drop) (omega (arith, opens-length d (k .arrays) (k .good .open-count))))
 
     all-parts : stack starts left ≡ asStarted top ∷ (map asStarted others ++ map asStarted (reverse (take n (opens d))))
     all-parts =
@@ -228,7 +229,7 @@ module _ (t : List Entry) (d : TagDecoder) (starts : List Started) (left : List 
     unfolding endFor
     its-ends = map-map asEnd asStarted others ∙ sym (ap (λ (l : List OpenTag). drop 1 (map endFor l)) top-first)
 
-    closed-go : Popped t (closedTo d n) starts left p (top .id) (top .«tag_start»)
+    closed-go : Popped t (closedTo d n) starts left p (asEnd (asStarted top))
     unfolding closedTo withOpen withWaiting
     closed-go =
         let l : d .«open_count» ≤ length (d .«open») = omega (arith, k .arrays .masters, k .good .open-count) in
@@ -251,53 +252,56 @@ module _ (t : List Entry) (d : TagDecoder) (starts : List Started) (left : List 
           };
         }
 
-    pub closed-linked : Popped t (closedTo d n) starts left p (getD (d .«open») (d .«open_count» - 1) noTag .id) (getD (d .«open») (d .«open_count» - 1) noTag .«tag_start»)
-    unfolding top
-    closed-linked = closed-go
+    -- the first of their Ends is handed out
+    pub closed-linked : Popped t (closedTo d n) starts left p (getD (endsFrom d n) 0 noEnd)
+    unfolding endsFrom endFor
+    closed-linked = rw top-first closed-go
 
 -- ---- a recovery that found a header
 
-grown-id : (n : ℕ) (m : OpenTag) → grownBy n m .id ≡ m .id
-unfolding grownBy
+grown-id : (n : ℕ) (m : OpenTag) → sizeGrown n m .id ≡ m .id
+unfolding sizeGrown
 grown-id n m = pick (λ (o : OpenTag). o .id ≡ m .id) (m .known) _ m (λ e. refl) (λ e. refl)
 
 -- a known end grows as the size does
-pub grown-later : (n : ℕ) (m : OpenTag) → later n (asStarted m) ≡ asStarted (grownBy n m)
-unfolding grownBy later
+pub grown-later : (n : ℕ) (m : OpenTag) → later n (asStarted m) ≡ asStarted (sizeGrown n m)
+unfolding sizeGrown later
 grown-later n m =
     pick (λ (o : OpenTag). later n (asStarted m) ≡ asStarted o) (m .known) _ m
     (λ e. ap ended (ap (λ (b : Bool). laterEnd n (knownEnd b (endOf m))) e ∙ ap Number sum))
     (λ e. ap ended (ap (λ (b : Bool). laterEnd n (knownEnd b (endOf m))) e ∙ sym (ap (λ (b : Bool). knownEnd b (endOf m)) e)))
   where
-    ended : Given → Started
+    ended : Optional → Started
     ended g = record { id = m .id; offset = m .«tag_start»; end = g }
 
     sum : m .«data_start» + m .size + n ≡ m .«data_start» + (m .size + n)
     sum = omega arith
 
+-- the Starts and the implied parents, n bytes on
 pub stack-later : (n : ℕ) (starts : List Started) (left : List ℕ) → stack (map (later n) starts) left ≡ map (later n) (stack starts left)
 unfolding later
 stack-later n starts left = ap (λ (l : List Started). map (later n) starts ++ l) (sym (map-map (later n) parentOf left)) ∙ sym (map-append (later n) starts (map parentOf left))
 
-pub grown-linked : (t : List Entry) (d : TagDecoder) (starts : List Started) (left : List ℕ) (p : ℕ) → Linked t d starts left p → (n : ℕ) → GoodState (grown d n)
-    → Linked t (grown d n) (map (later n) starts) left p
-unfolding grown withOpen later
+-- the open ends grow
+pub grown-linked : (t : List Entry) (d : TagDecoder) (starts : List Started) (left : List ℕ) (p : ℕ) → Linked t d starts left p → (n : ℕ) → GoodState (withSizesGrown d n)
+    → Linked t (withSizesGrown d n) (map (later n) starts) left p
+unfolding withSizesGrown withOpen later
 grown-linked t d starts left p k n g =
     let l : d .«open_count» ≤ length (d .«open») = omega (arith, k .arrays .masters, k .good .open-count) in
     let all = stack-later n starts left in
     record {
       arrays = grown-arrays d (k .arrays) n;
       good = g;
-      masters = rw (grown-opens d n l) (every-map (λ (m : OpenTag). isMaster (dataTypeOf t (m .id))) (grownBy n) (λ (m : OpenTag). isMaster (dataTypeOf t (m .id))) (λ m e. rw (grown-id n m) e) (opens d) (k .masters));
+      masters = rw (grown-opens d n l) (every-map (λ (m : OpenTag). isMaster (dataTypeOf t (m .id))) (sizeGrown n) (λ (m : OpenTag). isMaster (dataTypeOf t (m .id))) (λ m e. rw (grown-id n m) e) (opens d) (k .masters));
       ended = map (later n) (k .ended);
       waiting = map-map asEnd (later n) (k .ended) ∙ k .waiting;
       parts =
           all ∙ ap (map (later n)) (k .parts) ∙ map-append (later n) (k .ended) (map asStarted (reverse (opens d)))
           ∙ ap (λ (r : List Started). map (later n) (k .ended) ++ r)
           (map-map (later n) asStarted (reverse (opens d))
-          ∙ map-same (λ (m : OpenTag). later n (asStarted m)) (λ (m : OpenTag). asStarted (grownBy n m)) (grown-later n) (reverse (opens d))
-          ∙ sym (map-map asStarted (grownBy n) (reverse (opens d)))
-          ∙ ap (map asStarted) (map-reversed (grownBy n) (opens d) ∙ ap reverse (sym (grown-opens d n l))));
+          ∙ map-same (λ (m : OpenTag). later n (asStarted m)) (λ (m : OpenTag). asStarted (sizeGrown n m)) (grown-later n) (reverse (opens d))
+          ∙ sym (map-map asStarted (sizeGrown n) (reverse (opens d)))
+          ∙ ap (map asStarted) (map-reversed (sizeGrown n) (opens d) ∙ ap reverse (sym (grown-opens d n l))));
       kinds = rw all (every-map (λ (m : Started). isMaster (dataTypeOf t (m .id))) (later n) (λ (m : Started). isMaster (dataTypeOf t (m .id))) (λ m e. e) (stack starts left) (k .kinds));
       few = rw (all, length-map) (k .few);
       place = k .place;

@@ -1,5 +1,5 @@
--- Where the child-size test was never off, the known ends of the Starts that are open are nested, so that where one of them is not full the outermost is
--- not full. Assumes nothing.
+-- Where the child-size test was never off, the known ends of the Starts that are open are nested, so that where one of
+-- them is not full the outermost is not full. Assumes nothing.
 use Prim.Native.Nat.{ℕ, _+_, _<_}
 use mathlib.Core.Path.{_≡_, refl, sym, ap, _∙_, subst}
 use mathlib.Core.Bool.{Bool, true, false}
@@ -8,23 +8,24 @@ use mathlib.Core.Logic.{⊎-elim}
 use native.Mathlib.Omega.{arith}
 use borrow.Author.Tests.{leb-true, le-leb}
 use lib.ListN.{drop}
-use Rattle.table.specs.Lists.{every}
+use Rattle.basics.specs.Lists.{every}
 use Rattle.table.specs.Table.{Entry, tableOf}
-use Rattle.decoder_state.specs.declared.types.Answer.the-variants as answer
-use Rattle.decoder_state.specs.declared.types.Event.the-variants as event
-use Rattle.decoder_state.specs.declared.types.Given.{Given}
-use Rattle.decoder_state.specs.declared.types.Given.the-variants.{Nothing, Number}
-use Rattle.decoder_state.specs.declared.types.Search.the-variants as search
-use Rattle.decoder_state.proofs.Good.{both, every-map}
-use Rattle.guarantees.specs.Calls.{Call, lent, Told, answered, searched, silent, toldBy, recordAfter, history, Lent}
-use Rattle.guarantees.specs.History.{Started, laterEnd, later, declaredEnd, afterTold, firstEnd, outermostEnd, startsOpen, testAfter, childTestNeverOff}
-use Rattle.guarantees.specs.Promises.{Runs, openAt, leftAt, placeAt, NotFull}
+use Rattle.decoder_rules.specs.declared.types.Answer.the-variants as answer
+use Rattle.decoder_rules.specs.declared.types.Event.the-variants as event
+use Rattle.decoder_rules.specs.declared.types.Optional.{Optional}
+use Rattle.decoder_rules.specs.declared.types.Optional.the-variants.{Nothing, Number}
+use Rattle.decoder_rules.specs.declared.types.Search.the-variants as search
+use Rattle.basics.proofs.Bools.{both, not-false}
+use Rattle.basics.proofs.Every.{every-map}
+use Rattle.guarantees.specs.Calls.{Call, lent, Response, answered, searched, silent, responseTo, recordAfter, history, Lent}
+use Rattle.guarantees.specs.History.{Started, laterEnd, later, declaredEnd, afterResponse, firstEnd, outermostEnd, startsOpen, testAfter, childTestNeverOff}
+use Rattle.guarantees.specs.Promises.{Runs, openAt, leftAt, positionAt, NotFull}
 use Rattle.guarantees.proofs.Steps.{reachesTo, allReach, Ends}
-use Rattle.guarantees.proofs.AnyCalls.{ToldFacts, promised-after, test-after}
-use Rattle.guarantees.proofs.Guarantees.{never-off-on, not-false}
+use Rattle.guarantees.proofs.AnyCalls.{ResponseFacts, promised-after, test-after}
+use Rattle.guarantees.proofs.Guarantees.{never-off-on}
 
 -- a master of this end ends inside all of these
-abbrev InsideAll : Given → List Started → Type 0
+abbrev InsideAll : Optional → List Started → Type 0
 InsideAll Nothing l = Unit {0}
 InsideAll (Number e) l = allReach e l ≡ true
 
@@ -35,15 +36,15 @@ Nested (m ∷ l) = InsideAll (m .end) l × Nested l
 
 -- ---- kept by what a call tells
 
-inside-all : (g : Given) (l : List Started) → Ends false g l → InsideAll g l
+inside-all : (g : Optional) (l : List Started) → Ends false g l → InsideAll g l
 inside-all Nothing l e = tt
 inside-all (Number e) l f = f refl
 
-reaches-later : (n e : ℕ) (g : Given) → reachesTo e g ≡ true → reachesTo (e + n) (laterEnd n g) ≡ true
+reaches-later : (n e : ℕ) (g : Optional) → reachesTo e g ≡ true → reachesTo (e + n) (laterEnd n g) ≡ true
 reaches-later n e Nothing h = refl
 reaches-later n e (Number f) h = le-leb (e + n) (f + n) (omega (arith, leb-true e f h))
 
-inside-later : (n : ℕ) (g : Given) (l : List Started) → InsideAll g l → InsideAll (laterEnd n g) (map (later n) l)
+inside-later : (n : ℕ) (g : Optional) (l : List Started) → InsideAll g l → InsideAll (laterEnd n g) (map (later n) l)
 unfolding later
 inside-later n Nothing l h = tt
 inside-later n (Number e) l h = every-map (λ (m : Started). reachesTo e (m .end)) (later n) (λ (m : Started). reachesTo (e + n) (m .end)) (λ m f. reaches-later n e (m .end) f) l h
@@ -58,11 +59,11 @@ unfolding Nested
 nested-drop [] h = tt
 nested-drop (m ∷ l) h = h .1
 
-nested-told : (t : List Entry) (s : List ℕ) (starts : List Started) (left : List ℕ) (p : ℕ) (x : Told) → ToldFacts t false s starts left p x → Nested starts → Nested (afterTold t s x starts)
+nested-told : (t : List Entry) (s : List ℕ) (starts : List Started) (left : List ℕ) (p : ℕ) (x : Response) → ResponseFacts t false s starts left p x → Nested starts → Nested (afterResponse t s x starts)
 unfolding Nested
 nested-told t s starts left p (answered (answer.Event (event.Start y o)) n) f h =
     (inside-all (declaredEnd t o s) starts (subst (λ (q : ℕ). Ends false (declaredEnd t q s) starts) (sym (f .1 .offset)) (f .1 .inside)), h)
-nested-told t s starts left p (answered (answer.Event (event.End y o)) n) f h = nested-drop starts h
+nested-told t s starts left p (answered (answer.Event (event.End end)) n) f h = nested-drop starts h
 nested-told t s starts left p (answered (answer.Event (event.Data y o v)) n) f h = h
 nested-told t s starts left p (answered answer.NeedMore n) f h = h
 nested-told t s starts left p (answered answer.Finished n) f h = h
@@ -72,15 +73,16 @@ nested-told t s starts left p (searched search.NotFound n) f h = h
 nested-told t s starts left p (searched (search.Refused r) n) f h = h
 nested-told t s starts left p silent f h = h
 
+-- after any calls they are nested, where the child-size test was never off
 pub nested-after : (es ps : List ℕ) (cs : List Call) → Runs es ps cs → childTestNeverOff cs ≡ true → Nested (openAt es ps cs)
 unfolding Nested history startsOpen childTestNeverOff Lent
 nested-after es ps [] run on = tt
 nested-after es ps (c ∷ cs) run on =
     let b = both (testAfter c true) (childTestNeverOff cs) on in
     let before : Runs es ps cs = record { checked = run .checked; octets = run .octets .1 } in
-    let off : recordAfter es ps cs .«allow_oversized» ≡ false = not-false _ (test-after es ps (run .checked) cs (run .octets .1) ∙ never-off-on cs (b .right)) in
-    let f = subst (λ (x : Bool). ToldFacts (tableOf es ps) x (lent c) (openAt es ps cs) (leftAt es ps cs c) (placeAt es ps cs) (toldBy es ps (recordAfter es ps cs) c)) off (promised-after es ps cs c run .promised) in
-    nested-told (tableOf es ps) (lent c) (openAt es ps cs) (leftAt es ps cs c) (placeAt es ps cs) (toldBy es ps (recordAfter es ps cs) c) f (nested-after es ps cs before (b .right))
+    let off : recordAfter es ps cs .settings .«allow_oversized» ≡ false = not-false _ (test-after es ps (run .checked) cs (run .octets .1) ∙ never-off-on cs (b .right)) in
+    let f = subst (λ (x : Bool). ResponseFacts (tableOf es ps) x (lent c) (openAt es ps cs) (leftAt es ps cs c) (positionAt es ps cs) (responseTo es ps (recordAfter es ps cs) c)) off (promised-after es ps cs c run .promised) in
+    nested-told (tableOf es ps) (lent c) (openAt es ps cs) (leftAt es ps cs c) (positionAt es ps cs) (responseTo es ps (recordAfter es ps cs) c) f (nested-after es ps cs before (b .right))
 
 -- ---- so the outermost ends last
 
@@ -91,10 +93,11 @@ reaches-outermost e (m ∷ l) h =
     let b = both (reachesTo e (m .end)) (allReach e l) h in
     go (outermostEnd l) (b .left) (reaches-outermost e l (b .right))
   where
-    go : (g : Given) → reachesTo e (m .end) ≡ true → reachesTo e g ≡ true → reachesTo e (firstEnd g (m .end)) ≡ true
+    go : (g : Optional) → reachesTo e (m .end) ≡ true → reachesTo e g ≡ true → reachesTo e (firstEnd g (m .end)) ≡ true
     go Nothing p q = p
     go (Number f) p q = q
 
+-- where one of nested Starts is not full, the outermost of known size is not full
 pub outermost-not-full : (l : List Started) (p : ℕ) → Nested l → NotFull l p → (f : ℕ) × (outermostEnd l ≡ Number f) × (p < f)
 unfolding Nested outermostEnd
 outermost-not-full [] p h n = absurd (List·Memᴰ·not-nil (n .still-open))
@@ -107,11 +110,11 @@ outermost-not-full (m ∷ l) p h n = ⊎-elim here (λ i. there (outermost-not-f
     here e = go (outermostEnd l) (reach (ap (λ (o : Started). o .end) (sym e) ∙ n .known))
       where
         reach : m .end ≡ Number (n .end) → (m .end ≡ Number (n .end)) × (reachesTo (n .end) (outermostEnd l) ≡ true)
-        reach q = (q, reaches-outermost (n .end) l (subst (λ (g : Given). InsideAll g l) q (h .0)))
+        reach q = (q, reaches-outermost (n .end) l (subst (λ (g : Optional). InsideAll g l) q (h .0)))
 
-        go : (g : Given) → (m .end ≡ Number (n .end)) × (reachesTo (n .end) g ≡ true) → (f : ℕ) × (firstEnd g (m .end) ≡ Number f) × (p < f)
+        go : (g : Optional) → (m .end ≡ Number (n .end)) × (reachesTo (n .end) g ≡ true) → (f : ℕ) × (firstEnd g (m .end) ≡ Number f) × (p < f)
         go Nothing q = (n .end, q .0, n .beyond)
         go (Number f) q = (f, refl, omega (arith, leb-true (n .end) f (q .1), n .beyond))
 
     there : (f : ℕ) × (outermostEnd l ≡ Number f) × (p < f) → Found
-    there r = (r .0, ap (λ (g : Given). firstEnd g (m .end)) (r .1), r .2)
+    there r = (r .0, ap (λ (g : Optional). firstEnd g (m .end)) (r .1), r .2)

@@ -1,4 +1,5 @@
--- The promises of demand 3 as statements over any calls on a fresh decoder: each speaks of the last of the calls, whatever the calls before it were.
+-- The promises of demand 3 as statements over any calls on a fresh decoder: each speaks of the last of the calls,
+-- whatever the calls before it were.
 use Prim.Native.Nat.{ℕ, zero, suc, _≤_, _<_}
 use mathlib.Core.Path.{_≡_}
 use mathlib.Core.List.{List, [], _∷_, _++_, List·Memᴰ}
@@ -9,14 +10,16 @@ use Rattle.table.specs.declared.types.TagDataType.{TagDataType}
 use Rattle.table.specs.declared.types.TagDataType.the-variants as type
 use Rattle.tag_parse.specs.declared.types.TagValue.{TagValue}
 use Rattle.tag_parse.specs.declared.types.TagValue.the-variants as value
-use Rattle.decoder_state.specs.OneCall.{errorNumber, decodeEof}
-use Rattle.decoder_state.specs.declared.types.Answer.{Answer}
-use Rattle.decoder_state.specs.declared.types.Answer.the-variants as answer
-use Rattle.decoder_state.specs.declared.types.Event.{Event}
-use Rattle.decoder_state.specs.declared.types.Event.the-variants as event
-use Rattle.decoder_state.specs.declared.types.Given.{Given}
-use Rattle.decoder_state.specs.declared.types.Given.the-variants.{Nothing, Number}
-use Rattle.guarantees.specs.Calls.{lent, Call, ending, Told, answered, toldBy, recordAfter, history, Lent}
+use Rattle.decoder_rules.specs.Numbers.{errorNumber}
+use Rattle.decoder_rules.specs.EndOfInput.{decodeEof}
+use Rattle.decoder_rules.specs.declared.types.Answer.{Answer}
+use Rattle.decoder_rules.specs.declared.types.Answer.the-variants as answer
+use Rattle.decoder_rules.specs.declared.types.Event.{Event}
+use Rattle.decoder_rules.specs.declared.types.Event.the-variants as event
+use Rattle.decoder_rules.specs.declared.types.Optional.{Optional}
+use Rattle.decoder_rules.specs.declared.types.Optional.the-variants.{Nothing, Number}
+use Rattle.decoder_rules.specs.declared.types.WaitingEnd.{WaitingEnd}
+use Rattle.guarantees.specs.Calls.{lent, Call, ending, Response, answered, responseTo, recordAfter, history, Lent}
 use Rattle.guarantees.specs.Settling.{seenParents}
 use Rattle.guarantees.specs.History.{Started, startsOpen, parentsLeft, position}
 
@@ -31,58 +34,61 @@ valueKind (value.Binary r) = type.Binary
 valueKind (value.Float b) = type.Float
 valueKind (value.Raw r) = type.Untyped
 
+-- the kind of an event: a Start and an End are of a Master
 abbrev pub eventKind : Event → TagDataType
 eventKind (event.Start x o) = type.Master
-eventKind (event.End x o) = type.Master
+eventKind (event.End end) = type.Master
 eventKind (event.Data x o v) = valueKind v
 
+-- the ID of an event
 abbrev pub eventId : Event → ℕ
 eventId (event.Start x o) = x
-eventId (event.End x o) = x
+eventId (event.End end) = end .id
 eventId (event.Data x o v) = x
 
--- the offset of an element: a Start or a Data
-abbrev pub elementOffset : Event → Given
+-- the offset of an element, a Start or a Data; an End is none
+abbrev pub elementOffset : Event → Optional
 elementOffset (event.Start x o) = Number o
-elementOffset (event.End x o) = Nothing
+elementOffset (event.End end) = Nothing
 elementOffset (event.Data x o v) = Number o
 
 -- ---- the table and the calls that the promises speak of
 
+-- these calls are such as the promises speak of
 pub record Runs (es ps : List ℕ) (cs : List Call) : Type 0 where
-  -- "Fix one table that the table check passes"
+  -- the table is one that the table check passes
   pub checked : checkTable es ps ≡ Passed
   -- what is lent are octets
   pub octets : Lent cs
 
 -- what the call c answers after the calls cs
-abbrev pub lastTold : List ℕ → List ℕ → List Call → Call → Told
-lastTold es ps cs c = toldBy es ps (recordAfter es ps cs) c
+abbrev pub lastResponse : List ℕ → List ℕ → List Call → Call → Response
+lastResponse es ps cs c = responseTo es ps (recordAfter es ps cs) c
 
--- it is an answer of decode or of the end of input, with some count of bytes taken
+-- the call c answers a: it is decode or the end of input, and takes some count of bytes
 abbrev pub Answers : List ℕ → List ℕ → List Call → Call → Answer → Type 0
-Answers es ps cs c a = (n : ℕ) × (lastTold es ps cs c ≡ answered a n)
+Answers es ps cs c a = (n : ℕ) × (lastResponse es ps cs c ≡ answered a n)
 
--- the Starts that are open where the call c comes, and the implied parents that are left, with those that c itself implies before its event
+-- the Starts that are open after these calls
 abbrev pub openAt : List ℕ → List ℕ → List Call → List Started
 openAt es ps cs = startsOpen (tableOf es ps) (history es ps cs)
 
+-- the implied parents that are left where the call c comes, with those that c itself implies before its event
 abbrev pub leftAt : List ℕ → List ℕ → List Call → Call → List ℕ
-leftAt es ps cs c = seenParents ps (tableOf es ps) (history es ps cs) (lent c) (lastTold es ps cs c) ++ parentsLeft ps (tableOf es ps) (history es ps cs)
+leftAt es ps cs c = seenParents ps (tableOf es ps) (history es ps cs) (lent c) (lastResponse es ps cs c) ++ parentsLeft ps (tableOf es ps) (history es ps cs)
 
--- the position there
-abbrev pub placeAt : List ℕ → List ℕ → List Call → ℕ
-placeAt es ps cs = position (history es ps cs)
+-- the position after these calls
+abbrev pub positionAt : List ℕ → List ℕ → List Call → ℕ
+positionAt es ps cs = position (history es ps cs)
 
 -- ---- 3
 
--- an End of ID x and offset o, where these Starts are open and these implied parents are left: "Each End names the last Start still open or, where none
--- is open, the innermost parent left of those implied because reading began below the root. (Start and its End also agree in offset; an
--- implied parent's is 0.)"
-abbrev pub EndMatches : List Started → List ℕ → ℕ → ℕ → Type 0
-EndMatches [] [] x o = ⊥
-EndMatches [] (y ∷ left) x o = (x ≡ y) × (o ≡ 0)
-EndMatches (m ∷ starts) left x o = (x ≡ m .id) × (o ≡ m .offset)
+-- an End fits, where these Starts are open and these implied parents are left: it names the last Start or, where none
+-- is open, the innermost parent; it has the offset of the Start, and an implied parent's is 0
+abbrev pub EndMatches : List Started → List ℕ → WaitingEnd → Type 0
+EndMatches [] [] end = ⊥
+EndMatches [] (x ∷ left) end = (end .id ≡ x) × (end .offset ≡ 0)
+EndMatches (m ∷ starts) left end = (end .id ≡ m .id) × (end .offset ≡ m .offset)
 
 -- ---- 5
 
@@ -92,7 +98,7 @@ EndsInside e starts = (m : Started) → List·Memᴰ m starts → (f : ℕ) → 
 
 -- ---- cut records
 
--- "a master of known size is open and not full": of these Starts that are open one has an end beyond the place p
+-- a master of known size is open and not full: of these Starts that are open one has an end beyond the place p
 pub record NotFull (starts : List Started) (p : ℕ) : Type 0 where
   pub master : Started
   pub still-open : List·Memᴰ master starts
@@ -103,7 +109,7 @@ pub record NotFull (starts : List Started) (p : ℕ) : Type 0 where
 -- an End, or refusal 23
 abbrev pub EndOr23 : Answer → Type 0
 EndOr23 (answer.Event (event.Start x o)) = ⊥
-EndOr23 (answer.Event (event.End x o)) = Unit {0}
+EndOr23 (answer.Event (event.End end)) = Unit {0}
 EndOr23 (answer.Event (event.Data x o v)) = ⊥
 EndOr23 answer.NeedMore = ⊥
 EndOr23 answer.Finished = ⊥

@@ -1,1 +1,2 @@
-// What a checked table guarantees over any calls: definitions in specs/, promises in proofs/. There is no code of its own here.
+// What a checked table guarantees over any calls: definitions in specs/, promises in proofs/. There is no code of its
+// own here.

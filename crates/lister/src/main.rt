@@ -1,13 +1,13 @@
-// The event lister: reads a record on standard input and prints its list, with the bench table. It only reads, calls and writes: what it prints and what it does
-// with its buffer is proved in event_list.
+// The event lister: reads a record on standard input and prints its list, with the bench table. It only reads, calls
+// and writes: what it prints and what it does with its buffer is proved in event_list.
 
-use decoder_state::types::Answer;
+use decoder_rules::types::Answer;
 use event_list::lines::MOST_LINE;
 use event_list::lines::put_line;
 use event_list::listing::after_read;
-use event_list::listing::keep;
+use event_list::listing::call_once;
+use event_list::listing::move_unread_to_front;
 use event_list::listing::start;
-use event_list::listing::turn;
 use event_list::types::Listing;
 use event_list::types::Next;
 use libc::STDERR_FILENO;
@@ -15,14 +15,20 @@ use libc::STDIN_FILENO;
 use libc::STDOUT_FILENO;
 use tag_decoder::settings::position;
 
-// A read that fails may have been interrupted, and is tried again; this many in a row are taken for an input that cannot be read.
+// The bytes of the read buffer: no larger element is listed.
+const BUFFER_SIZE: usize = 4096;
+
+// A read that fails may have been interrupted, and is tried again; this many in a row are taken for an input that
+// cannot be read.
 const MOST_TRIES: u64 = 1000;
 
+// What is kept after a step, and whether it was the last.
 struct Progress {
     listing: Listing,
     is_last: bool,
 }
 
+// The list ends here.
 fn last(listing: Listing) -> Progress {
     Progress {
         listing,
@@ -54,22 +60,24 @@ fn read(space: &mut [u8]) -> isize {
     -1
 }
 
+// The unread bytes move to the front, and the buffer is filled behind them.
 fn read_more(buffer: &mut [u8], l: Listing) -> Progress {
-    let kept = keep(buffer, l);
-    let upto = kept.upto;
+    let moved = move_unread_to_front(buffer, l);
+    let upto = moved.upto;
     let got = read(&mut buffer[upto..]);
     if got < 0 {
         io::write_all(STDERR_FILENO, b"lister: the input cannot be read\n");
-        return last(kept);
+        return last(moved);
     }
     Progress {
-        listing: after_read(buffer.len(), kept, got),
+        listing: after_read(buffer.len(), moved, got),
         is_last: false,
     }
 }
 
+// One call of the decoder, and what is to be done after it.
 fn step(buffer: &mut [u8], l: Listing) -> Progress {
-    let t = turn(buffer, l);
+    let t = call_once(buffer, l);
     let answer = t.answer;
     let next = t.next;
     let listing = t.listing;
@@ -90,21 +98,22 @@ fn step(buffer: &mut [u8], l: Listing) -> Progress {
     }
 }
 
-// Nothing says that an input ends, so the turns are counted down from a number that no run uses up.
+// Nothing says that an input ends, so the steps are counted down from a number that no run uses up.
 fn list(buffer: &mut [u8]) {
     let mut listing = start();
-    let mut turns = u64::MAX;
-    while 0 < turns {
+    let mut steps_left = u64::MAX;
+    while 0 < steps_left {
         let s = step(buffer, listing);
         listing = s.listing;
         if s.is_last {
             return;
         }
-        turns -= 1;
+        steps_left -= 1;
     }
 }
 
+// The list of standard input.
 fn main() {
-    let mut buffer = [0u8; 4096];
+    let mut buffer = [0u8; BUFFER_SIZE];
     list(&mut buffer);
 }

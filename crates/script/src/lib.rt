@@ -55,7 +55,8 @@ fn answer_on_decoder(
     }
 }
 
-// The answer to one line at the front of `out`: none for an empty line or a comment. The words of a lent table stand in `entries` and `parts`.
+// The answer to one line at the front of `out`: none for an empty line or a comment. The words of a lent table stand in
+// `entries` and `parts`.
 pub fn answer(
     line: &[u8],
     entries: &mut [u64],

@@ -28,8 +28,8 @@ const ANSWER_ROOM: usize = 20000;
 // More words than a line can write: each takes two bytes, with the comma or the space before it.
 const MOST_WORDS: usize = 8192;
 
-// What goes from one step to the next: how many bytes of the unfinished line are held, whether it has more than a line may have, how
-// many bytes of output are still to be written, and what the lines so far leave.
+// What goes from one step to the next: how many bytes of the unfinished line are held, whether it has more than a line
+// may have, how many bytes of output are still to be written, and what the lines so far leave.
 struct Progress {
     held: usize,
     is_over: bool,
@@ -86,7 +86,8 @@ fn make_room(out: &[u8], filled: usize) -> usize
     filled
 }
 
-// A sum apart from its caller: a proof that stands far from a function's entry does not see there that a length fits a usize.
+// A sum apart from its caller: a proof that stands far from a function's entry does not see there that a length fits a
+// usize.
 fn end_of(out: &[u8], start: usize, count: usize) -> usize
     requires { ⌜ start + count ≤ length (now out) ⌝ }
     ensures { λ r. ⌜ r ≡ start + count ⌝ }
@@ -250,6 +251,7 @@ fn answer_all(line: &mut [u8], entries: &mut [u64], parts: &mut [u64], out: &mut
     io::write_all(STDOUT_FILENO, &out[0..filled]);
 }
 
+// Answers the lines of the standard input on the standard output.
 pub fn answer_stdin() {
     let mut line = [0u8; MOST_LINE];
     let mut entries = [0u64; MOST_WORDS];

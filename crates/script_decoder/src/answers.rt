@@ -5,15 +5,16 @@ ghost use lib.ListN.{length};
 use crate::words::put_after;
 use crate::words::put_id;
 use crate::words::put_named;
-use decoder_element::errors::error_number;
-use decoder_state::types::Answer;
-use decoder_state::types::Cut;
-use decoder_state::types::DecodeError;
-use decoder_state::types::Event;
-use decoder_state::types::Given;
-use decoder_state::types::Part;
-use decoder_state::types::Refusal;
-use decoder_state::types::Search;
+use decoder_rules::errors::error_number;
+use decoder_rules::types::Answer;
+use decoder_rules::types::Cut;
+use decoder_rules::types::DecodeError;
+use decoder_rules::types::Event;
+use decoder_rules::types::Optional;
+use decoder_rules::types::Part;
+use decoder_rules::types::Refusal;
+use decoder_rules::types::Search;
+use script_text::answers::is_nan;
 use script_text::answers::put;
 use script_text::answers::put_bits;
 use script_text::answers::put_signed;
@@ -30,10 +31,6 @@ fn put_element(letter: u8, id: u64, offset: u64, out: &mut [u8]) -> usize
     let after_space = put(b' ', out, after_letter);
     let after_id = put_id(id, out, after_space);
     put_after(b' ', offset, out, after_id)
-}
-
-fn is_nan(bits: u64) -> bool {
-    0x7ff0_0000_0000_0000 < bits % 0x8000_0000_0000_0000
 }
 
 // What is compared of a NaN is only that it is one.
@@ -56,36 +53,45 @@ fn put_range(range: Range, out: &mut [u8], at: usize) -> usize
     put_after(b' ', range.end, out, next)
 }
 
-fn put_data(id: u64, offset: u64, value: TagValue, out: &mut [u8]) -> usize
+// The letter of an event with this value.
+fn letter_of(value: TagValue) -> u8 {
+    match value {
+        TagValue::UnsignedInt(_) => b'U',
+        TagValue::Integer(_) => b'I',
+        TagValue::Float(_) => b'D',
+        TagValue::Utf8(_) => b'T',
+        TagValue::Binary(_) => b'B',
+        TagValue::Raw(_) => b'R',
+    }
+}
+
+fn put_integer(v: i64, out: &mut [u8], at: usize) -> usize
+    requires { ⌜ at ≤ length (now out) ⌝ }
+    ensures { λ r. ⌜ r ≤ length (now (out .entry)) ⌝ }
+{
+    let next = put(b' ', out, at);
+    put_signed(v, out, next)
+}
+
+fn put_value(value: TagValue, out: &mut [u8], at: usize) -> usize
+    requires { ⌜ at ≤ length (now out) ⌝ }
     ensures { λ r. ⌜ r ≤ length (now (out .entry)) ⌝ }
 {
     match value {
-        TagValue::UnsignedInt(n) => {
-            let at = put_element(b'U', id, offset, out);
-            put_after(b' ', n, out, at)
-        }
-        TagValue::Integer(v) => {
-            let at = put_element(b'I', id, offset, out);
-            let next = put(b' ', out, at);
-            put_signed(v, out, next)
-        }
-        TagValue::Float(bits) => {
-            let at = put_element(b'D', id, offset, out);
-            put_float(bits, out, at)
-        }
-        TagValue::Utf8(range) => {
-            let at = put_element(b'T', id, offset, out);
-            put_range(range, out, at)
-        }
-        TagValue::Binary(range) => {
-            let at = put_element(b'B', id, offset, out);
-            put_range(range, out, at)
-        }
-        TagValue::Raw(range) => {
-            let at = put_element(b'R', id, offset, out);
-            put_range(range, out, at)
-        }
+        TagValue::UnsignedInt(n) => put_after(b' ', n, out, at),
+        TagValue::Integer(v) => put_integer(v, out, at),
+        TagValue::Float(bits) => put_float(bits, out, at),
+        TagValue::Utf8(range) => put_range(range, out, at),
+        TagValue::Binary(range) => put_range(range, out, at),
+        TagValue::Raw(range) => put_range(range, out, at),
     }
+}
+
+fn put_data(id: u64, offset: u64, value: TagValue, out: &mut [u8]) -> usize
+    ensures { λ r. ⌜ r ≤ length (now (out .entry)) ⌝ }
+{
+    let at = put_element(letter_of(value), id, offset, out);
+    put_value(value, out, at)
 }
 
 fn put_event(e: Event, out: &mut [u8]) -> usize
@@ -93,31 +99,31 @@ fn put_event(e: Event, out: &mut [u8]) -> usize
 {
     match e {
         Event::Start { id, offset } => put_element(b'S', id, offset, out),
-        Event::End { id, offset } => put_element(b'E', id, offset, out),
+        Event::End(end) => put_element(b'E', end.id, end.offset, out),
         Event::Data { id, offset, value } => put_data(id, offset, value, out),
     }
 }
 
-fn put_given_id(id: Given, out: &mut [u8], at: usize) -> usize
+fn put_given_id(id: Optional, out: &mut [u8], at: usize) -> usize
     requires { ⌜ at ≤ length (now out) ⌝ }
     ensures { λ r. ⌜ r ≤ length (now (out .entry)) ⌝ }
 {
     match id {
-        Given::Nothing => put_text(b" id=-", out, at),
-        Given::Number(n) => {
+        Optional::Nothing => put_text(b" id=-", out, at),
+        Optional::Number(n) => {
             let next = put_text(b" id=", out, at);
             put_id(n, out, next)
         }
     }
 }
 
-fn put_given_size(size: Given, out: &mut [u8], at: usize) -> usize
+fn put_given_size(size: Optional, out: &mut [u8], at: usize) -> usize
     requires { ⌜ at ≤ length (now out) ⌝ }
     ensures { λ r. ⌜ r ≤ length (now (out .entry)) ⌝ }
 {
     match size {
-        Given::Nothing => put_text(b" size=-", out, at),
-        Given::Number(n) => put_named(b" size=", n, out, at),
+        Optional::Nothing => put_text(b" size=-", out, at),
+        Optional::Number(n) => put_named(b" size=", n, out, at),
     }
 }
 
@@ -148,7 +154,7 @@ fn put_cut(cut: Cut, out: &mut [u8], at: usize) -> usize
 }
 
 // A refusal: its number, its place, and what 23 names.
-pub fn put_refusal(refusal: Refusal, out: &mut [u8]) -> usize
+fn put_refusal(refusal: Refusal, out: &mut [u8]) -> usize
     ensures { λ r. ⌜ r ≤ length (now (out .entry)) ⌝ }
 {
     let error = refusal.error;
@@ -161,7 +167,7 @@ pub fn put_refusal(refusal: Refusal, out: &mut [u8]) -> usize
 }
 
 // The count of bytes taken and the position after the call.
-pub fn put_reached(taken: usize, position: u64, out: &mut [u8], at: usize) -> usize
+fn put_reached(taken: usize, position: u64, out: &mut [u8], at: usize) -> usize
     requires { ⌜ at ≤ length (now out) ⌝ }
     ensures { λ r. ⌜ r ≤ length (now (out .entry)) ⌝ }
 {
@@ -169,39 +175,41 @@ pub fn put_reached(taken: usize, position: u64, out: &mut [u8], at: usize) -> us
     put_named(b" p=", position, out, next)
 }
 
+// An event, and what the call reached.
+fn put_event_reached(e: Event, taken: usize, position: u64, out: &mut [u8]) -> usize
+    ensures { λ r. ⌜ r ≤ length (now (out .entry)) ⌝ }
+{
+    let at = put_event(e, out);
+    put_reached(taken, position, out, at)
+}
+
+// A letter, and what the call reached.
+fn put_letter_reached(letter: u8, taken: usize, position: u64, out: &mut [u8]) -> usize
+    ensures { λ r. ⌜ r ≤ length (now (out .entry)) ⌝ }
+{
+    let at = put(letter, out, 0);
+    put_reached(taken, position, out, at)
+}
+
 // The answer, with the count of bytes taken and the position after the call where it is no refusal.
 pub fn put_answer(answer: Answer, taken: usize, position: u64, out: &mut [u8]) -> usize
     ensures { λ r. ⌜ r ≤ length (now (out .entry)) ⌝ }
 {
     match answer {
-        Answer::Event(e) => {
-            let at = put_event(e, out);
-            put_reached(taken, position, out, at)
-        }
-        Answer::NeedMore => {
-            let at = put(b'N', out, 0);
-            put_reached(taken, position, out, at)
-        }
-        Answer::Finished => {
-            let at = put(b'F', out, 0);
-            put_reached(taken, position, out, at)
-        }
+        Answer::Event(e) => put_event_reached(e, taken, position, out),
+        Answer::NeedMore => put_letter_reached(b'N', taken, position, out),
+        Answer::Finished => put_letter_reached(b'F', taken, position, out),
         Answer::Refused(r) => put_refusal(r, out),
     }
 }
 
+// The answer of a recovery: found, not found, or a refusal.
 pub fn put_search(answer: Search, taken: usize, position: u64, out: &mut [u8]) -> usize
     ensures { λ r. ⌜ r ≤ length (now (out .entry)) ⌝ }
 {
     match answer {
-        Search::Found => {
-            let at = put(b'Y', out, 0);
-            put_reached(taken, position, out, at)
-        }
-        Search::NotFound => {
-            let at = put(b'Q', out, 0);
-            put_reached(taken, position, out, at)
-        }
+        Search::Found => put_letter_reached(b'Y', taken, position, out),
+        Search::NotFound => put_letter_reached(b'Q', taken, position, out),
         Search::Refused(r) => put_refusal(r, out),
     }
 }

@@ -1,20 +1,21 @@
-// A line that begins with the name of a call on the decoder, and its answer.
+// A line of a script that names a call on the decoder: which names do, and what the line answers.
 
 ghost use Prim.Native.Nat.{_≤_};
 ghost use lib.ListN.{length};
 use crate::answers::put_answer;
 use crate::answers::put_search;
 use crate::changes::Change;
+use crate::changes::bad;
 use crate::changes::set_allowance;
 use crate::changes::set_max;
 use crate::record::put_record;
 use crate::setting::set_fields;
-use decoder_state::types::Decoded;
-use decoder_state::types::Recovered;
-use decoder_state::types::TagDecoder;
+use decoder_rules::types::Decoded;
+use decoder_rules::types::Recovered;
+use decoder_rules::types::TagDecoder;
 use script_text::answers::bad_line;
 use script_text::answers::put_text;
-use script_text::numerals::read_hex;
+use script_text::reading::read_hex;
 use script_text::words::same;
 use script_text::words::word_end;
 use tag_decoder::calls::decode;
@@ -36,6 +37,7 @@ pub fn first_decoder() -> TagDecoder {
     new()
 }
 
+// Whether a line with this name changes the record.
 fn is_setting(name: &[u8]) -> bool {
     if same(name, b"new") {
         return true;
@@ -49,6 +51,7 @@ fn is_setting(name: &[u8]) -> bool {
     same(name, b"set")
 }
 
+// Whether a line with this name is a call on the decoder.
 pub fn is_call(name: &[u8]) -> bool {
     if same(name, b"decode") {
         return true;
@@ -65,6 +68,7 @@ pub fn is_call(name: &[u8]) -> bool {
     is_setting(name)
 }
 
+// A line that is no call: the decoder stays.
 fn no_call(decoder: TagDecoder, out: &mut [u8]) -> Answered
     ensures { λ r. ⌜ r .count ≤ length (now (out .entry)) ⌝ }
 {
@@ -74,6 +78,7 @@ fn no_call(decoder: TagDecoder, out: &mut [u8]) -> Answered
     }
 }
 
+// A line that only changes the decoder.
 fn done(decoder: TagDecoder, out: &mut [u8]) -> Answered
     ensures { λ r. ⌜ r .count ≤ length (now (out .entry)) ⌝ }
 {
@@ -94,6 +99,7 @@ fn changed(change: Change, d: TagDecoder, out: &mut [u8]) -> Answered
     no_call(d, out)
 }
 
+// A call's answer, and the record that it leaves.
 fn decoded(r: Decoded, out: &mut [u8]) -> Answered
     ensures { λ r. ⌜ r .count ≤ length (now (out .entry)) ⌝ }
 {
@@ -105,6 +111,7 @@ fn decoded(r: Decoded, out: &mut [u8]) -> Answered
     }
 }
 
+// The same of a recovery.
 fn recovered(r: Recovered, out: &mut [u8]) -> Answered
     ensures { λ r. ⌜ r .count ≤ length (now (out .entry)) ⌝ }
 {
@@ -118,6 +125,29 @@ fn recovered(r: Recovered, out: &mut [u8]) -> Answered
 
 // A call on the unread bytes.
 fn answer_on_bytes(
+    name: &[u8],
+    bytes: &[u8],
+    entries: &[u64],
+    parts: &[u64],
+    d: TagDecoder,
+    out: &mut [u8],
+) -> Answered
+    ensures { λ r. ⌜ r .count ≤ length (now (out .entry)) ⌝ }
+{
+    if same(name, b"decode") {
+        return decoded(decode(entries, parts, d, bytes), out);
+    }
+    if same(name, b"eof") {
+        return decoded(decode_eof(entries, parts, d, bytes), out);
+    }
+    if same(name, b"recover") {
+        return recovered(try_recover(entries, parts, d, bytes), out);
+    }
+    no_call(d, out)
+}
+
+// The same with the bytes in HEX.
+fn answer_on_hex(
     name: &[u8],
     word: &[u8],
     entries: &[u64],
@@ -133,18 +163,10 @@ fn answer_on_bytes(
         return no_call(d, out);
     }
     let n = hex.count;
-    if same(name, b"decode") {
-        return decoded(decode(entries, parts, d, &bytes[0..n]), out);
-    }
-    if same(name, b"eof") {
-        return decoded(decode_eof(entries, parts, d, &bytes[0..n]), out);
-    }
-    if same(name, b"recover") {
-        return recovered(try_recover(entries, parts, d, &bytes[0..n]), out);
-    }
-    no_call(d, out)
+    answer_on_bytes(name, &bytes[0..n], entries, parts, d, out)
 }
 
+// A line of one word.
 fn answer_alone(name: &[u8], d: TagDecoder, out: &mut [u8]) -> Answered
     ensures { λ r. ⌜ r .count ≤ length (now (out .entry)) ⌝ }
 {
@@ -158,6 +180,37 @@ fn answer_alone(name: &[u8], d: TagDecoder, out: &mut [u8]) -> Answered
         };
     }
     no_call(d, out)
+}
+
+// What a setting with words changes.
+fn change_by(name: &[u8], words: &[u8], d: TagDecoder) -> Change {
+    if same(name, b"allow") {
+        return set_allowance(words, d);
+    }
+    if same(name, b"max") {
+        return set_max(words, d);
+    }
+    if same(name, b"set") {
+        return set_fields(words, d);
+    }
+    bad(d)
+}
+
+// A line of several words.
+fn answer_with_words(
+    name: &[u8],
+    words: &[u8],
+    entries: &[u64],
+    parts: &[u64],
+    d: TagDecoder,
+    out: &mut [u8],
+) -> Answered
+    ensures { λ r. ⌜ r .count ≤ length (now (out .entry)) ⌝ }
+{
+    if is_setting(name) {
+        return changed(change_by(name, words, d), d, out);
+    }
+    answer_on_hex(name, words, entries, parts, d, out)
 }
 
 // The answer to one line at the front of `out`, and the decoder after it.
@@ -174,16 +227,5 @@ pub fn answer(
     if end == line.len() {
         return answer_alone(line, d, out);
     }
-    let name = &line[0..end];
-    let words = &line[end + 1..];
-    if same(name, b"allow") {
-        return changed(set_allowance(words, d), d, out);
-    }
-    if same(name, b"max") {
-        return changed(set_max(words, d), d, out);
-    }
-    if same(name, b"set") {
-        return changed(set_fields(words, d), d, out);
-    }
-    answer_on_bytes(name, words, entries, parts, d, out)
+    answer_with_words(&line[0..end], &line[end + 1..], entries, parts, d, out)
 }

@@ -1,22 +1,21 @@
 // What a call or a field of `set` changes of the record.
 
-use crate::items::OpenItem;
-use crate::items::WaitingItem;
-use crate::items::read_open;
-use crate::items::read_waiting;
-use decoder_state::moves::no_end;
-use decoder_state::types::Given;
-use decoder_state::types::TagDecoder;
-use script_text::numerals::Number;
-use script_text::numerals::read_decimal;
+use crate::items::Item;
+use crate::items::ListKind;
+use crate::items::PLACES;
+use crate::items::read_item;
+use decoder_move::moves::no_end;
+use decoder_rules::types::Optional;
+use decoder_rules::types::TagDecoder;
+use decoder_rules::types::WaitingEnd;
+use script_text::reading::Number;
+use script_text::reading::read_decimal;
 use script_text::words::item_end;
 use script_text::words::same;
+use spec_util::types::OpenTag;
 use spec_util::types::no_tag;
 use tag_decoder::settings::allow_errors;
 use tag_decoder::settings::set_max_allowable_tag_size;
-
-// The places of a list.
-const PLACES: usize = 32;
 
 // One item more than there are places only says so.
 const MOST_ITEMS: usize = 33;
@@ -27,6 +26,7 @@ pub struct Change {
     pub decoder: TagDecoder,
 }
 
+// A change whose text is right.
 fn good(decoder: TagDecoder) -> Change {
     Change {
         is_good: true,
@@ -34,6 +34,7 @@ fn good(decoder: TagDecoder) -> Change {
     }
 }
 
+// No change: the text is wrong.
 pub fn bad(decoder: TagDecoder) -> Change {
     Change {
         is_good: false,
@@ -41,7 +42,7 @@ pub fn bad(decoder: TagDecoder) -> Change {
     }
 }
 
-// The tests to switch off, as a sum.
+// `d` with exactly these tests switched off: a sum of 1, 2 and 4.
 pub fn set_allowance(text: &[u8], d: TagDecoder) -> Change {
     let Number::Value(sum) = read_decimal(text) else {
         return bad(d);
@@ -52,17 +53,18 @@ pub fn set_allowance(text: &[u8], d: TagDecoder) -> Change {
     good(allow_errors(d, sum % 2 == 1, sum / 2 % 2 == 1, sum / 4 == 1))
 }
 
-// The greatest size, `-` for none.
+// `d` with this greatest size, `-` for none.
 pub fn set_max(text: &[u8], d: TagDecoder) -> Change {
     if same(text, b"-") {
-        return good(set_max_allowable_tag_size(d, Given::Nothing));
+        return good(set_max_allowable_tag_size(d, Optional::Nothing));
     }
     let Number::Value(n) = read_decimal(text) else {
         return bad(d);
     };
-    good(set_max_allowable_tag_size(d, Given::Number(n)))
+    good(set_max_allowable_tag_size(d, Optional::Number(n)))
 }
 
+// `d` at this position.
 pub fn set_position(text: &[u8], d: TagDecoder) -> Change {
     let Number::Value(n) = read_decimal(text) else {
         return bad(d);
@@ -72,34 +74,35 @@ pub fn set_position(text: &[u8], d: TagDecoder) -> Change {
     good(next)
 }
 
+// Whether the text is `1` or `0`.
+fn is_flag(text: &[u8]) -> bool {
+    if same(text, b"1") {
+        return true;
+    }
+    same(text, b"0")
+}
+
+// `d` settled or not: `1` or `0`.
 pub fn set_settled(text: &[u8], d: TagDecoder) -> Change {
+    if !is_flag(text) {
+        return bad(d);
+    }
     let mut next = d;
     next.settled = same(text, b"1");
-    if next.settled {
-        return good(next);
-    }
-    if same(text, b"0") {
-        return good(next);
-    }
-    bad(d)
+    good(next)
 }
 
+// `d` finished or not: `1` or `0`.
 pub fn set_finished(text: &[u8], d: TagDecoder) -> Change {
+    if !is_flag(text) {
+        return bad(d);
+    }
     let mut next = d;
     next.finished = same(text, b"1");
-    if next.finished {
-        return good(next);
-    }
-    if same(text, b"0") {
-        return good(next);
-    }
-    bad(d)
+    good(next)
 }
 
-fn push_open(item: &[u8], d: TagDecoder) -> Change {
-    let OpenItem::Tag(tag) = read_open(item) else {
-        return bad(d);
-    };
+fn push_open(tag: OpenTag, d: TagDecoder) -> Change {
     let n = d.open_count;
     if MOST_ITEMS <= n {
         return bad(d);
@@ -112,10 +115,7 @@ fn push_open(item: &[u8], d: TagDecoder) -> Change {
     good(next)
 }
 
-fn push_waiting(item: &[u8], d: TagDecoder) -> Change {
-    let WaitingItem::End(end) = read_waiting(item) else {
-        return bad(d);
-    };
+fn push_waiting(end: WaitingEnd, d: TagDecoder) -> Change {
     let n = d.waiting_count;
     if MOST_ITEMS <= n {
         return bad(d);
@@ -128,13 +128,23 @@ fn push_waiting(item: &[u8], d: TagDecoder) -> Change {
     good(next)
 }
 
-fn push_opens(list: &[u8], d: TagDecoder) -> Change {
+// One item more on its list.
+fn push_item(kind: ListKind, text: &[u8], d: TagDecoder) -> Change {
+    let item = read_item(kind, text);
+    match item {
+        Item::Open(tag) => push_open(tag, d),
+        Item::Waiting(end) => push_waiting(end, d),
+        Item::Bad => bad(d),
+    }
+}
+
+fn push_items(kind: ListKind, list: &[u8], d: TagDecoder) -> Change {
     let mut change = good(d);
     let mut at: usize = 0;
     while at <= list.len() {
         let end = item_end(list, at);
         let so_far = change.decoder;
-        change = push_open(&list[at..end], so_far);
+        change = push_item(kind, &list[at..end], so_far);
         if !change.is_good {
             return change;
         }
@@ -143,39 +153,29 @@ fn push_opens(list: &[u8], d: TagDecoder) -> Change {
     change
 }
 
-fn push_waitings(list: &[u8], d: TagDecoder) -> Change {
-    let mut change = good(d);
-    let mut at: usize = 0;
-    while at <= list.len() {
-        let end = item_end(list, at);
-        let so_far = change.decoder;
-        change = push_waiting(&list[at..end], so_far);
-        if !change.is_good {
-            return change;
+// `d` with an empty list of this kind.
+fn emptied(kind: ListKind, d: TagDecoder) -> TagDecoder {
+    let mut next = d;
+    match kind {
+        ListKind::Open => {
+            let tag = no_tag();
+            next.open = [tag; PLACES];
+            next.open_count = 0;
         }
-        at = end + 1;
+        ListKind::Waiting => {
+            let end = no_end();
+            next.waiting = [end; PLACES];
+            next.waiting_count = 0;
+        }
     }
-    change
+    next
 }
 
-pub fn set_open(text: &[u8], d: TagDecoder) -> Change {
-    let tag = no_tag();
-    let mut cleared = d;
-    cleared.open = [tag; PLACES];
-    cleared.open_count = 0;
+// `d` with this list in place of its own, `-` for an empty one.
+pub fn set_list(kind: ListKind, text: &[u8], d: TagDecoder) -> Change {
+    let empty = emptied(kind, d);
     if same(text, b"-") {
-        return good(cleared);
+        return good(empty);
     }
-    push_opens(text, cleared)
-}
-
-pub fn set_waiting(text: &[u8], d: TagDecoder) -> Change {
-    let end = no_end();
-    let mut cleared = d;
-    cleared.waiting = [end; PLACES];
-    cleared.waiting_count = 0;
-    if same(text, b"-") {
-        return good(cleared);
-    }
-    push_waitings(text, cleared)
+    push_items(kind, text, empty)
 }

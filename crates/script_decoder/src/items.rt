@@ -1,20 +1,27 @@
 // The items of the lists that `set` takes: `ID:SIZE:START:DATA` of an open master, `ID:OFFSET` of a waiting End.
 
-use decoder_state::types::WaitingEnd;
-use script_text::numerals::Number;
-use script_text::numerals::read_decimal;
-use script_text::numerals::read_word;
+use decoder_rules::types::WaitingEnd;
+use script_text::reading::Number;
+use script_text::reading::read_decimal;
+use script_text::reading::read_word;
 use script_text::words::find;
 use script_text::words::same;
 use spec_util::types::OpenTag;
+use spec_util::types::open_tag;
 
-pub enum OpenItem {
-    Tag(OpenTag),
-    Bad,
+// The places of each list.
+pub const PLACES: usize = 32;
+
+// The two lists of a record: its open masters, and its Ends that wait.
+pub enum ListKind {
+    Open,
+    Waiting,
 }
 
-pub enum WaitingItem {
-    End(WaitingEnd),
+// An item as it was read.
+pub enum Item {
+    Open(OpenTag),
+    Waiting(WaitingEnd),
     Bad,
 }
 
@@ -35,71 +42,58 @@ fn read_size(text: &[u8]) -> Size {
     Size::Known(n)
 }
 
-fn known_or_not(size: Size, id: u64, tag_start: u64, data_start: u64) -> OpenItem {
+fn known_or_not(size: Size, id: u64, tag_start: u64, data_start: u64) -> Item {
     match size {
-        Size::Known(n) => OpenItem::Tag(OpenTag {
-            id,
-            known: true,
-            size: n,
-            tag_start,
-            data_start,
-        }),
-        Size::Unknown => OpenItem::Tag(OpenTag {
-            id,
-            known: false,
-            size: 0,
-            tag_start,
-            data_start,
-        }),
-        Size::Bad => OpenItem::Bad,
+        Size::Known(n) => Item::Open(open_tag(id, true, n, tag_start, data_start)),
+        Size::Unknown => Item::Open(open_tag(id, false, 0, tag_start, data_start)),
+        Size::Bad => Item::Bad,
     }
 }
 
 // The two offsets at the end of an item.
-fn with_starts(id: u64, size: Size, text: &[u8]) -> OpenItem {
+fn with_starts(id: u64, size: Size, text: &[u8]) -> Item {
     let end = find(b':', text, 0);
     if end == text.len() {
-        return OpenItem::Bad;
+        return Item::Bad;
     }
     let Number::Value(tag_start) = read_decimal(&text[0..end]) else {
-        return OpenItem::Bad;
+        return Item::Bad;
     };
     let Number::Value(data_start) = read_decimal(&text[end + 1..]) else {
-        return OpenItem::Bad;
+        return Item::Bad;
     };
     known_or_not(size, id, tag_start, data_start)
 }
 
-fn with_size(id: u64, text: &[u8]) -> OpenItem {
+// The size and the offsets of an open master.
+fn with_size(id: u64, text: &[u8]) -> Item {
     let end = find(b':', text, 0);
     if end == text.len() {
-        return OpenItem::Bad;
+        return Item::Bad;
     }
     let size = read_size(&text[0..end]);
     with_starts(id, size, &text[end + 1..])
 }
 
-pub fn read_open(item: &[u8]) -> OpenItem {
-    let end = find(b':', item, 0);
-    if end == item.len() {
-        return OpenItem::Bad;
-    }
-    let Number::Value(id) = read_word(&item[0..end]) else {
-        return OpenItem::Bad;
+// The offset of a waiting End.
+fn with_offset(id: u64, text: &[u8]) -> Item {
+    let Number::Value(offset) = read_decimal(text) else {
+        return Item::Bad;
     };
-    with_size(id, &item[end + 1..])
+    Item::Waiting(WaitingEnd { id, offset })
 }
 
-pub fn read_waiting(item: &[u8]) -> WaitingItem {
-    let end = find(b':', item, 0);
-    if end == item.len() {
-        return WaitingItem::Bad;
+// The item that `text` writes for a list of this kind; `Bad` where it writes none.
+pub fn read_item(kind: ListKind, text: &[u8]) -> Item {
+    let end = find(b':', text, 0);
+    if end == text.len() {
+        return Item::Bad;
     }
-    let Number::Value(id) = read_word(&item[0..end]) else {
-        return WaitingItem::Bad;
+    let Number::Value(id) = read_word(&text[0..end]) else {
+        return Item::Bad;
     };
-    let Number::Value(offset) = read_decimal(&item[end + 1..]) else {
-        return WaitingItem::Bad;
-    };
-    WaitingItem::End(WaitingEnd { id, offset })
+    match kind {
+        ListKind::Open => with_size(id, &text[end + 1..]),
+        ListKind::Waiting => with_offset(id, &text[end + 1..]),
+    }
 }

@@ -1,4 +1,4 @@
-// The calls on a decoder: `new`, `allow`, `max`, `set` and `st` on its record, `decode` and `eof` on lent bytes.
+// The calls on a decoder: `new`, `allow`, `max`, `set` and `st` on its record, `decode`, `eof` and `recover` on bytes.
 
 mod answers;
 pub mod calls;

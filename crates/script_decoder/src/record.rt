@@ -2,17 +2,17 @@
 
 ghost use Prim.Native.Nat.{_≤_};
 ghost use lib.ListN.{length};
+use crate::items::ListKind;
+use crate::items::PLACES;
 use crate::words::put_after;
 use crate::words::put_flag;
 use crate::words::put_id;
 use crate::words::put_named;
-use decoder_state::types::TagDecoder;
-use decoder_state::types::WaitingEnd;
+use decoder_rules::types::TagDecoder;
+use decoder_rules::types::WaitingEnd;
 use script_text::answers::put;
 use script_text::answers::put_text;
 use spec_util::types::OpenTag;
-
-const MOST: usize = 32;
 
 fn bit(is_set: bool, value: u64) -> u64
     requires { ⌜ value ≤ 4 ⌝ }
@@ -23,15 +23,17 @@ fn bit(is_set: bool, value: u64) -> u64
 
 // The tests that are switched off, as a sum.
 fn allowance(d: TagDecoder) -> u64 {
-    bit(d.allow_ids, 1) + bit(d.allow_hierarchy, 2) + bit(d.allow_oversized, 4)
+    bit(d.settings.allow_ids, 1)
+        + bit(d.settings.allow_hierarchy, 2)
+        + bit(d.settings.allow_oversized, 4)
 }
 
 fn put_max(d: TagDecoder, out: &mut [u8], at: usize) -> usize
     requires { ⌜ at ≤ length (now out) ⌝ }
     ensures { λ r. ⌜ r ≤ length (now (out .entry)) ⌝ }
 {
-    if d.max_given {
-        return put_named(b" m=", d.max_size, out, at);
+    if d.settings.max_given {
+        return put_named(b" m=", d.settings.max_size, out, at);
     }
     put_text(b" m=-", out, at)
 }
@@ -77,90 +79,79 @@ fn put_waiting(i: usize, e: WaitingEnd, out: &mut [u8], at: usize) -> usize
     put_after(b':', e.offset, out, after_id)
 }
 
-fn put_open_at(d: TagDecoder, i: usize, out: &mut [u8], at: usize) -> usize
+// How many items the list of this kind has.
+fn count_of(kind: ListKind, d: TagDecoder) -> usize {
+    match kind {
+        ListKind::Open => d.open_count,
+        ListKind::Waiting => d.waiting_count,
+    }
+}
+
+// The item at `i`, where there is one.
+fn put_item(kind: ListKind, d: TagDecoder, i: usize, out: &mut [u8], at: usize) -> usize
     requires { ⌜ at ≤ length (now out) ⌝ }
     ensures { λ r. ⌜ r ≤ length (now (out .entry)) ⌝ }
 {
-    if d.open_count <= i {
+    if count_of(kind, d) <= i {
         return at;
     }
-    if MOST <= i {
+    if PLACES <= i {
         return at;
     }
-    let m = d.open[i];
-    put_open(i, m, out, at)
+    match kind {
+        ListKind::Open => {
+            let m = d.open[i];
+            put_open(i, m, out, at)
+        }
+        ListKind::Waiting => {
+            let e = d.waiting[i];
+            put_waiting(i, e, out, at)
+        }
+    }
 }
 
-fn put_waiting_at(d: TagDecoder, i: usize, out: &mut [u8], at: usize) -> usize
-    requires { ⌜ at ≤ length (now out) ⌝ }
-    ensures { λ r. ⌜ r ≤ length (now (out .entry)) ⌝ }
-{
-    if d.waiting_count <= i {
-        return at;
-    }
-    if MOST <= i {
-        return at;
-    }
-    let e = d.waiting[i];
-    put_waiting(i, e, out, at)
-}
-
-fn put_opens(d: TagDecoder, out: &mut [u8], at: usize) -> usize
+fn put_items(kind: ListKind, d: TagDecoder, out: &mut [u8], at: usize) -> usize
     requires { ⌜ at ≤ length (now out) ⌝ }
     ensures { λ r. ⌜ r ≤ length (now (out .entry)) ⌝ }
 {
     let mut to = at;
     let mut i: usize = 0;
-    while i < MOST {
-        to = put_open_at(d, i, out, to);
+    while i < PLACES {
+        to = put_item(kind, d, i, out, to);
         i += 1;
     }
     to
 }
 
-fn put_waitings(d: TagDecoder, out: &mut [u8], at: usize) -> usize
+// The items after the list's name, `-` for none.
+fn put_list(name: &[u8], kind: ListKind, d: TagDecoder, out: &mut [u8], at: usize) -> usize
     requires { ⌜ at ≤ length (now out) ⌝ }
     ensures { λ r. ⌜ r ≤ length (now (out .entry)) ⌝ }
 {
-    let mut to = at;
-    let mut i: usize = 0;
-    while i < MOST {
-        to = put_waiting_at(d, i, out, to);
-        i += 1;
-    }
-    to
-}
-
-fn put_open_list(d: TagDecoder, out: &mut [u8], at: usize) -> usize
-    requires { ⌜ at ≤ length (now out) ⌝ }
-    ensures { λ r. ⌜ r ≤ length (now (out .entry)) ⌝ }
-{
-    let next = put_text(b" O=", out, at);
-    if d.open_count == 0 {
+    let next = put_text(name, out, at);
+    if count_of(kind, d) == 0 {
         return put(b'-', out, next);
     }
-    put_opens(d, out, next)
+    put_items(kind, d, out, next)
 }
 
-fn put_waiting_list(d: TagDecoder, out: &mut [u8], at: usize) -> usize
+// The position, and whether the record is settled and finished.
+fn put_state(d: TagDecoder, out: &mut [u8], at: usize) -> usize
     requires { ⌜ at ≤ length (now out) ⌝ }
     ensures { λ r. ⌜ r ≤ length (now (out .entry)) ⌝ }
 {
-    let next = put_text(b" W=", out, at);
-    if d.waiting_count == 0 {
-        return put(b'-', out, next);
-    }
-    put_waitings(d, out, next)
+    let after_p = put_named(b" p=", d.position, out, at);
+    let after_s = put_flag(b" s=", d.settled, out, after_p);
+    put_flag(b" f=", d.finished, out, after_s)
 }
 
+// The record at the front of `out`. Answers how many bytes it has there.
 pub fn put_record(d: TagDecoder, out: &mut [u8]) -> usize
     ensures { λ r. ⌜ r ≤ length (now (out .entry)) ⌝ }
 {
     let after_a = put_named(b"st a=", allowance(d), out, 0);
     let after_m = put_max(d, out, after_a);
-    let after_p = put_named(b" p=", d.position, out, after_m);
-    let after_s = put_flag(b" s=", d.settled, out, after_p);
-    let after_f = put_flag(b" f=", d.finished, out, after_s);
-    let after_open = put_open_list(d, out, after_f);
-    put_waiting_list(d, out, after_open)
+    let after_f = put_state(d, out, after_m);
+    let after_open = put_list(b" O=", ListKind::Open, d, out, after_f);
+    put_list(b" W=", ListKind::Waiting, d, out, after_open)
 }

@@ -4,14 +4,15 @@ use crate::changes::Change;
 use crate::changes::bad;
 use crate::changes::set_allowance;
 use crate::changes::set_finished;
+use crate::changes::set_list;
 use crate::changes::set_max;
-use crate::changes::set_open;
 use crate::changes::set_position;
 use crate::changes::set_settled;
-use crate::changes::set_waiting;
-use decoder_state::types::TagDecoder;
+use crate::items::ListKind;
+use decoder_rules::types::TagDecoder;
 use script_text::words::word_end;
 
+// How many keys there are.
 const KEYS: usize = 7;
 
 // The record with the fields so far, which keys they have, and whether all are right.
@@ -42,8 +43,8 @@ fn change(key: u8, value: &[u8], d: TagDecoder) -> Change {
         b'p' => set_position(value, d),
         b's' => set_settled(value, d),
         b'f' => set_finished(value, d),
-        b'O' => set_open(value, d),
-        b'W' => set_waiting(value, d),
+        b'O' => set_list(ListKind::Open, value, d),
+        b'W' => set_list(ListKind::Waiting, value, d),
         _ => bad(d),
     }
 }
@@ -107,6 +108,7 @@ fn add_all(words: &[u8], decoder: TagDecoder) -> Setting {
     s
 }
 
+// `d` with each field of the line; no change where a field is wrong or comes twice.
 pub fn set_fields(words: &[u8], d: TagDecoder) -> Change {
     let s = add_all(words, d);
     let decoder = s.decoder;

@@ -3,11 +3,11 @@
 ghost use mathlib.Core.Path.{_≡_};
 ghost use Prim.Native.Nat.{_≤_};
 ghost use lib.ListN.{length};
-use script_text::numerals::Number;
-use script_text::numerals::Signed;
-use script_text::numerals::read_decimal;
-use script_text::numerals::read_hex;
-use script_text::numerals::read_signed;
+use script_text::reading::Number;
+use script_text::reading::Signed;
+use script_text::reading::read_decimal;
+use script_text::reading::read_hex;
+use script_text::reading::read_signed;
 use script_text::words::same;
 use script_text::words::word_end;
 

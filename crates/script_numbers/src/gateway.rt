@@ -20,7 +20,7 @@ use script_text::answers::bad_line;
 use script_text::answers::put;
 use script_text::answers::put_decimal;
 use script_text::answers::put_hex;
-use script_text::numerals::read_hex;
+use script_text::reading::read_hex;
 use script_text::words::last_word;
 
 enum Outcome {

@@ -7,6 +7,7 @@ use crate::calls::MOST_BYTES;
 use crate::calls::Vint;
 use crate::calls::number_call;
 use script_text::answers::bad_line;
+use script_text::answers::is_nan;
 use script_text::answers::put;
 use script_text::answers::put_bits;
 use script_text::answers::put_decimal;
@@ -99,10 +100,6 @@ fn bits_read(r: ArrToF64, out: &mut [u8]) -> usize
     }
 }
 
-fn is_nan(bits: u64) -> bool {
-    0x7ff0_0000_0000_0000 < bits % 0x8000_0000_0000_0000
-}
-
 // What is compared of a NaN is only that it is one.
 fn f64_read(r: ArrToF64, out: &mut [u8]) -> usize
     ensures { λ r. ⌜ r ≤ length (now (out .entry)) ⌝ }
@@ -164,6 +161,7 @@ fn answer_call(call: Call, bytes: &[u8], out: &mut [u8]) -> usize
     }
 }
 
+// What a line that calls a number routine answers.
 pub fn answer(line: &[u8], out: &mut [u8]) -> usize
     ensures { λ r. ⌜ r ≤ length (now (out .entry)) ⌝ }
 {

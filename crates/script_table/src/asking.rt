@@ -10,8 +10,8 @@ use script_text::answers::put_decimal;
 use script_text::answers::put_text;
 use script_text::answers::refused;
 use script_text::answers::yes_or_no;
-use script_text::numerals::Number;
-use script_text::numerals::read_word;
+use script_text::reading::Number;
+use script_text::reading::read_word;
 use script_text::words::same;
 use script_text::words::word_end;
 use spec_util::ended::is_ended_by;
@@ -74,9 +74,10 @@ fn answer_path(
         return bad_line(out);
     }
     if is_good {
-        let tags = stack.tags;
+        let ids = stack.ids;
+        let knowns = stack.knowns;
         return yes_or_no(
-            validate_tag_path(entries, parts, id, tags, stack.count),
+            validate_tag_path(entries, parts, id, &ids, &knowns, stack.count),
             out,
         );
     }
@@ -109,6 +110,7 @@ fn answer_pair(
     bad_line(out)
 }
 
+// What a line that asks of the lent table answers.
 pub fn answer_question(
     line: &[u8],
     entries: &[u64],

@@ -10,6 +10,7 @@ use crate::lending::answer_table;
 use script_text::words::same;
 use script_text::words::word_end;
 
+// Whether a name is that of a call on the lent table.
 pub fn is_call(name: &[u8]) -> bool {
     if same(name, b"table") {
         return true;

@@ -15,7 +15,8 @@ use table::shape::good_shape;
 // The refusal of a table's shape.
 pub const BAD_SHAPE: u64 = 10;
 
-// How many words of the table stand at the front of the lent ones, its entries' and its parts', and whether its shape is good.
+// How many words of the table stand at the front of the lent ones, its entries' and its parts', and whether its shape
+// is good.
 pub struct LentTable {
     pub entries: usize,
     pub parts: usize,

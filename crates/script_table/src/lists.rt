@@ -2,11 +2,12 @@
 
 ghost use Prim.Native.Nat.{_≤_};
 ghost use lib.ListN.{length};
-use script_text::numerals::Number;
-use script_text::numerals::read_word;
+use script_text::reading::Number;
+use script_text::reading::read_word;
 use script_text::words::item_end;
 use script_text::words::same;
 
+// Whether a list has no items.
 pub fn is_none(list: &[u8]) -> bool {
     same(list, b"-")
 }
@@ -24,6 +25,7 @@ fn has_words(list: &[u8]) -> bool {
     true
 }
 
+// Whether a text is a list of words.
 pub fn is_word_list(list: &[u8]) -> bool {
     if is_none(list) {
         return true;

@@ -1,20 +1,19 @@
-// STACK: a list of at most 32 open masters from the outermost, as `4E01:u,A1:k`, `u` for Unknown and `k` for a known size.
+// STACK: a list of at most 32 open masters from the outermost, as `4E01:u,A1:k`, `u` for Unknown and `k` for a known
+// size.
 
 use crate::lists::is_none;
-use script_text::numerals::Number;
-use script_text::numerals::read_word;
+use script_text::reading::Number;
+use script_text::reading::read_word;
 use script_text::words::find;
 use script_text::words::item_end;
 use script_text::words::same;
-use spec_util::types::OpenTag;
-use spec_util::types::no_tag;
+use spec_util::types::MOST_OPEN;
 
-const MOST_OPEN: usize = 32;
-
-// The open masters, if the text is a STACK: the first `count` places of `tags`.
+// The open masters, if the text is a STACK: their IDs and whether their sizes are known, in the first `count` places.
 pub struct Stack {
     pub is_stack: bool,
-    pub tags: [OpenTag; MOST_OPEN],
+    pub ids: [u64; MOST_OPEN],
+    pub knowns: [bool; MOST_OPEN],
     pub count: usize,
 }
 
@@ -25,7 +24,7 @@ enum Size {
 }
 
 enum Item {
-    Tag(OpenTag),
+    Master { id: u64, known: bool },
     Bad,
 }
 
@@ -39,13 +38,6 @@ fn read_size(text: &[u8]) -> Size {
     Size::Bad
 }
 
-fn tag_of(id: u64, known: bool) -> OpenTag {
-    let mut tag = no_tag();
-    tag.id = id;
-    tag.known = known;
-    tag
-}
-
 fn read_item(item: &[u8]) -> Item {
     let end = find(b':', item, 0);
     if end == item.len() {
@@ -55,45 +47,48 @@ fn read_item(item: &[u8]) -> Item {
         return Item::Bad;
     };
     match read_size(&item[end + 1..]) {
-        Size::Known => Item::Tag(tag_of(id, true)),
-        Size::Unknown => Item::Tag(tag_of(id, false)),
+        Size::Known => Item::Master { id, known: true },
+        Size::Unknown => Item::Master { id, known: false },
         Size::Bad => Item::Bad,
     }
 }
 
 fn no_stack(is_stack: bool) -> Stack {
-    let empty = no_tag();
     Stack {
         is_stack,
-        tags: [empty; MOST_OPEN],
+        ids: [0; MOST_OPEN],
+        knowns: [false; MOST_OPEN],
         count: 0,
     }
 }
 
 fn read_items(list: &[u8]) -> Stack {
-    let empty = no_tag();
-    let mut tags = [empty; MOST_OPEN];
+    let mut ids = [0u64; MOST_OPEN];
+    let mut knowns = [false; MOST_OPEN];
     let mut count: usize = 0;
     let mut at: usize = 0;
     while at <= list.len() {
         let end = item_end(list, at);
-        let Item::Tag(tag) = read_item(&list[at..end]) else {
+        let Item::Master { id, known } = read_item(&list[at..end]) else {
             return no_stack(false);
         };
         if MOST_OPEN <= count {
             return no_stack(false);
         }
-        tags[count] = tag;
+        ids[count] = id;
+        knowns[count] = known;
         count += 1;
         at = end + 1;
     }
     Stack {
         is_stack: true,
-        tags,
+        ids,
+        knowns,
         count,
     }
 }
 
+// The STACK that a text says; `-` says that none is open.
 pub fn read_stack(list: &[u8]) -> Stack {
     if is_none(list) {
         return no_stack(true);

@@ -1,9 +1,11 @@
-// The pieces of an answer. Each is put at a place of the lent bytes and answers the place after it; what finds no room is left out.
+// The pieces of an answer. Each is put at a place of the lent bytes and answers the place after it; what finds no room
+// is left out.
 
 ghost use Prim.Native.Nat.{_≤_, _<_};
 ghost use lib.ListN.{length};
-use tools::integer::u64_to_arr;
+use numerals::glyph_of;
 
+// One byte.
 pub fn put(b: u8, out: &mut [u8], at: usize) -> usize
     requires { ⌜ at ≤ length (now out) ⌝ }
     ensures { λ r. ⌜ r ≤ length (now (out .entry)) ⌝ }
@@ -15,6 +17,7 @@ pub fn put(b: u8, out: &mut [u8], at: usize) -> usize
     at
 }
 
+// The bytes of a text.
 pub fn put_text(text: &[u8], out: &mut [u8], at: usize) -> usize
     requires { ⌜ at ≤ length (now out) ⌝ }
     ensures { λ r. ⌜ r ≤ length (now (out .entry)) ⌝ }
@@ -28,45 +31,36 @@ pub fn put_text(text: &[u8], out: &mut [u8], at: usize) -> usize
     to
 }
 
+// A number in decimal.
 pub fn put_decimal(n: u64, out: &mut [u8], at: usize) -> usize
     requires { ⌜ at ≤ length (now out) ⌝ }
     ensures { λ r. ⌜ r ≤ length (now (out .entry)) ⌝ }
 {
     let mut digits = [0u8; 20];
-    let k = io::decimal(n, &mut digits);
+    let k = numerals::put_decimal(n, &mut digits, 0);
     put_text(&digits[0..k], out, at)
 }
 
-// How far a negative number is below 0, else the number.
-fn distance(v: i64) -> u64 {
-    if v < 0 { (!v) as u64 + 1 } else { v as u64 }
-}
-
+// A signed number in decimal.
 pub fn put_signed(v: i64, out: &mut [u8], at: usize) -> usize
     requires { ⌜ at ≤ length (now out) ⌝ }
     ensures { λ r. ⌜ r ≤ length (now (out .entry)) ⌝ }
 {
-    if v < 0 {
-        let next = put(b'-', out, at);
-        return put_decimal(distance(v), out, next);
-    }
-    put_decimal(distance(v), out, at)
+    let mut digits = [0u8; 21];
+    let k = numerals::put_signed(v, &mut digits, 0);
+    put_text(&digits[0..k], out, at)
 }
 
-fn hex_digit(d: u8) -> u8
-    requires { ⌜ d < 16 ⌝ }
-{
-    if d < 10 { b'0' + d } else { b'A' + (d - 10) }
-}
-
+// The two hex digits of a byte.
 fn put_byte(b: u8, out: &mut [u8], at: usize) -> usize
     requires { ⌜ at ≤ length (now out) ⌝ }
     ensures { λ r. ⌜ r ≤ length (now (out .entry)) ⌝ }
 {
-    let next = put(hex_digit(b / 16), out, at);
-    put(hex_digit(b % 16), out, next)
+    let next = put(glyph_of((b / 16) as u64), out, at);
+    put(glyph_of((b % 16) as u64), out, next)
 }
 
+// The hex digits of bytes.
 fn put_digits(bytes: &[u8], out: &mut [u8], at: usize) -> usize
     requires { ⌜ at ≤ length (now out) ⌝ }
     ensures { λ r. ⌜ r ≤ length (now (out .entry)) ⌝ }
@@ -96,11 +90,12 @@ pub fn put_bits(bits: u64, out: &mut [u8], at: usize) -> usize
     requires { ⌜ at ≤ length (now out) ⌝ }
     ensures { λ r. ⌜ r ≤ length (now (out .entry)) ⌝ }
 {
-    let mut bytes = [0u8; 8];
-    u64_to_arr(bits, &mut bytes);
-    put_digits(&bytes, out, at)
+    let mut digits = [0u8; 16];
+    numerals::put_hex16(bits, &mut digits, 0);
+    put_text(&digits, out, at)
 }
 
+// What a line that says no call answers.
 pub fn bad_line(out: &mut [u8]) -> usize
     ensures { λ r. ⌜ r ≤ length (now (out .entry)) ⌝ }
 {
@@ -123,4 +118,9 @@ pub fn refused(number: u64, out: &mut [u8]) -> usize
 {
     let at = put_text(b"X ", out, 0);
     put_decimal(number, out, at)
+}
+
+// Whether the 64 bits of a float are those of a NaN.
+pub fn is_nan(bits: u64) -> bool {
+    0x7ff0_0000_0000_0000 < bits % 0x8000_0000_0000_0000
 }

@@ -2,5 +2,5 @@
 // A part from the start is written `[0..n]`, not `[..n]`: the check then has its length with no proof.
 
 pub mod answers;
-pub mod numerals;
+pub mod reading;
 pub mod words;

@@ -48,6 +48,7 @@ pub fn last_word(line: &[u8]) -> usize
     0
 }
 
+// Whether two texts are the same.
 pub fn same(a: &[u8], b: &[u8]) -> bool {
     if a.len() != b.len() {
         return false;

@@ -3,11 +3,11 @@ use Prim.Native.Nat.{ℕ}
 use mathlib.Core.Path.{_≡_, refl}
 use mathlib.Core.Bool.{Bool, true, false}
 use mathlib.Core.List.{List, [], _∷_}
-use Rattle.table.specs.Lists.{any}
-use Rattle.table.specs.Table.{Entry, threes, fours, boundOf, partOf, sameBound, samePart, samePath, kindOf, clipped, entryOf, tableOf, entryFor, isTyped}
-use Rattle.table.proofs.Examples.{bench}
-use Rattle.spec_util.specs.Ended.{isIdOf, hasId, isParent, isSibling, isTypedRoot, isEndedBy}
-use Rattle.spec_util.specs.Walk.{overMax, underMin, isIdAt, walkGlobal, walkAt, walkPart, unknownAndEnded, walkMaster, minMet, walkEnd, goOn, walkFrom, validateTagPath}
+use Rattle.spec_util.proofs.Computing.{walksCompute}
+use Rattle.table.specs.Table.{Entry, tableOf}
+use Rattle.table.specs.BenchTable.{bench}
+use Rattle.spec_util.specs.Ended.{isEndedBy}
+use Rattle.spec_util.specs.Walk.{validateTagPath}
 use Rattle.spec_util.specs.declared.types.OpenTag.{OpenTag}
 
 -- an open master of known or Unknown size
@@ -37,7 +37,7 @@ pub record Ended : Type 0 where
   pub not-by-untyped : isEndedBy bench 0xA1 0x81 ≡ false
 
 pub ended : Ended
-unfolding any threes fours boundOf partOf sameBound samePart samePath kindOf clipped entryOf tableOf entryFor isIdOf hasId isTyped isParent isSibling isTypedRoot isEndedBy
+unfolding walksCompute
 ended = record {
   by-parent = refl;
   by-sibling = refl;
@@ -68,7 +68,7 @@ pub record Walked : Type 0 where
   pub above-1 : validateTagPath globals 0x85 (k 0x81 ∷ k 0x81 ∷ []) ≡ false
 
 pub walked : Walked
-unfolding any threes fours boundOf partOf sameBound samePart samePath kindOf clipped entryOf tableOf entryFor isIdOf hasId isTyped isParent isSibling isTypedRoot isEndedBy overMax underMin isIdAt walkGlobal walkAt walkPart unknownAndEnded walkMaster minMet walkEnd goOn walkFrom validateTagPath
+unfolding walksCompute
 walked = record {
   amount-in-feed = refl;
   amount-in-session = refl;

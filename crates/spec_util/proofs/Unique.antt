@@ -1,11 +1,11 @@
--- No second answer satisfies a contract: of each public routine, two answers that the contract, as Rattle reads it, allows for the same
--- arguments are equal. Assumes nothing.
+-- No second answer satisfies a contract: of each public routine, two answers that the contract, as Rattle reads it,
+-- allows for the same arguments are equal. Assumes nothing.
 use Prim.Native.Nat.{ℕ}
 use mathlib.Core.Path.{_≡_}
 use mathlib.Core.Bool.{Bool}
 use contract.Lifetimes.{Lfts}
 use borrow.Fn.Kinds.{Dens}
-use Rattle.table.proofs.Unique.{same}
+use Rattle.tools.proofs.Unique.{same}
 use Rattle.spec_util.specs.declared.types.OpenTag.{OpenTag}
 use Rattle.spec_util.specs.declared.types.Walk.{Walk}
 use Rattle.spec_util.proofs.types.no_tag.Kinds as no-tag-kinds
@@ -22,6 +22,8 @@ use Rattle.spec_util.proofs.walk.walk_end.Kinds as walk-end-kinds
 use Rattle.spec_util.proofs.walk.walk_end.Reads as walk-end
 use Rattle.spec_util.proofs.walk.at_most_32.Kinds as at-most-32-kinds
 use Rattle.spec_util.proofs.walk.at_most_32.Reads as at-most-32
+use Rattle.spec_util.proofs.walk.walk_along.Kinds as walk-along-kinds
+use Rattle.spec_util.proofs.walk.walk_along.Reads as walk-along
 use Rattle.spec_util.proofs.walk.validate_tag_path.Kinds as validate-tag-path-kinds
 use Rattle.spec_util.proofs.walk.validate_tag_path.Reads as validate-tag-path
 
@@ -53,6 +55,10 @@ pub at-most-32-determined : (κs : Lfts 0) (a : Dens κs at-most-32-kinds.ps) (r
     → ((e : _) → at-most-32.Post κs a r e → at-most-32.Post κs a r' e → r ≡ r')
 at-most-32-determined κs a r r' e = same
 
-pub validate-tag-path-determined : (κs : Lfts 2) (a : Dens κs validate-tag-path-kinds.ps) (r r' : Bool)
+pub walk-along-determined : (κs : Lfts 4) (a : Dens κs walk-along-kinds.ps) (r r' : Bool)
+    → ((e : _) → walk-along.Post κs a r e → walk-along.Post κs a r' e → r ≡ r')
+walk-along-determined κs a r r' e = same
+
+pub validate-tag-path-determined : (κs : Lfts 4) (a : Dens κs validate-tag-path-kinds.ps) (r r' : Bool)
     → ((e : _) → validate-tag-path.Post κs a r e → validate-tag-path.Post κs a r' e → r ≡ r')
 validate-tag-path-determined κs a r r' e = same

@@ -11,7 +11,7 @@ use lib.Seq.{drop-cons}
 use Rattle.table.specs.Table.{Entry}
 use Rattle.table.specs.declared.types.PathPart.{PathPart}
 use Rattle.table.specs.declared.types.PathPart.the-variants.{Id, Global}
-use Rattle.table.proofs.Loops.{either}
+use Rattle.basics.proofs.Bools.{either}
 use Rattle.spec_util.specs.Walk.{noTag, overMax, underMin, isIdAt, walkGlobal, walkAt, walkPart, unknownAndEnded, walkMaster, walkEnd, goOn, walkFrom}
 use Rattle.spec_util.specs.declared.types.OpenTag.{OpenTag}
 use Rattle.spec_util.specs.declared.types.Walk.{Walk}

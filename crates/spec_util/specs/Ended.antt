@@ -4,7 +4,7 @@ use mathlib.Core.Bool.{Bool, false, _&&_, _||_}
 use mathlib.Core.List.{List}
 use lib.Dec.{eqb}
 use lib.ListN.{length}
-use Rattle.table.specs.Lists.{any}
+use Rattle.basics.specs.Lists.{any}
 use Rattle.table.specs.Table.{Entry, dataTypeOf, pathOf, samePath, isTyped}
 use Rattle.table.specs.declared.types.PathPart.{PathPart}
 use Rattle.table.specs.declared.types.PathPart.the-variants.{Id, Global}

@@ -1,9 +1,11 @@
 -- The path walk of an ID along its path: document 01, "One call of the decoder", "Path walk".
-use Prim.Native.Nat.{ℕ, _+_, _-_, _^_, min}
+use Prim.Native.Nat.{ℕ, zero, suc, _+_, _-_, _^_, _<_, min}
 use mathlib.Core.Bool.{Bool, true, false, cond, not, _&&_, _||_}
 use mathlib.Core.List.{List, [], _∷_}
+use mathlib.Core.Path.{_≡_}
 use lib.Dec.{leb, ltb, eqb}
 use lib.ListN.{length, getD}
+use Rattle.basics.specs.Lists.{arrayPlaces}
 use Rattle.table.specs.Table.{Entry, pathOf}
 use Rattle.table.specs.declared.types.Bound.{Bound}
 use Rattle.table.specs.declared.types.Bound.the-variants.{NotGiven, Given}
@@ -14,9 +16,17 @@ use Rattle.spec_util.specs.declared.types.OpenTag.{OpenTag}
 use Rattle.spec_util.specs.declared.types.Walk.{Walk}
 use Rattle.spec_util.specs.declared.types.Walk.the-variants.{Accept, Refuse, On}
 
+-- an open master: ID, size known or not, size (0 where it is not known), start, data start
+abbrev pub openTag : ℕ → Bool → ℕ → ℕ → ℕ → OpenTag
+openTag x known size start from = record { id = x; known = known; size = size; «tag_start» = start; «data_start» = from }
+
 -- what an empty place of the open masters holds
 abbrev pub noTag : OpenTag
-noTag = record { id = 0; known = false; size = 0; «tag_start» = 0; «data_start» = 0 }
+noTag = openTag 0 false 0 0 0
+
+-- a record has places for so many open masters
+abbrev pub mostOpen : ℕ
+mostOpen = arrayPlaces
 
 -- ---- bounds: one that is not given bounds nothing
 
@@ -36,8 +46,8 @@ underMin n (Given least) = ltb n least
 unfoldable pub isIdAt : List PathPart → ℕ → ℕ → Bool
 isIdAt path i id = ltb i (length path) && isIdOf id (getD path i (Id 0))
 
--- "Global: counter +1; over max: refuse; if the next part is this master's ID: below min refuse, else marker +2, counter 0";
--- n is the counter with this master counted
+-- "Global: counter +1; over max: refuse; if the next part is this master's ID: below min refuse, else marker +2,
+-- counter 0"; n is the counter with this master counted
 unfoldable pub walkGlobal : List PathPart → ℕ → ℕ → ℕ → Bound → Bound → Walk
 walkGlobal path master marker n least most =
     cond (overMax n most) Refuse
@@ -93,6 +103,31 @@ walkFrom t path id marker counter (m ∷ ms) =
 -- "from the outermost open master, marker 0, counter 0"
 unfoldable pub validateTagPath : List Entry → ℕ → List OpenTag → Bool
 validateTagPath t id masters = walkFrom t (pathOf t id) id 0 0 masters
+
+-- ---- the open masters in lent words
+
+-- a master of which lent words show the ID and whether its size is known; the walk asks no more of it
+abbrev pub shownAs : ℕ → Bool → OpenTag
+shownAs id known = openTag id known 0 0 0
+
+-- the first n masters that the words show, outermost first; what lies past the words of either kind is not there
+unfoldable pub mastersShown : List ℕ → List Bool → ℕ → List OpenTag
+mastersShown [] knowns n = []
+mastersShown (id ∷ ids) [] n = []
+mastersShown (id ∷ ids) (known ∷ knowns) zero = []
+mastersShown (id ∷ ids) (known ∷ knowns) (suc n) = shownAs id known ∷ mastersShown ids knowns n
+
+-- n words that show the IDs of n masters; of the words past them nothing is said
+pub record ShownIds (ids : List ℕ) (n : ℕ) (l : List OpenTag) : Type 0 where
+  pub many : length l ≡ n
+  pub ids-are : (i : ℕ) → i < n → getD ids i 0 ≡ getD l i noTag .id
+
+-- besides, whether the size of each is known
+pub record Shown (ids : List ℕ) (knowns : List Bool) (n : ℕ) (l : List OpenTag) : Type 0 where
+  pub shown-ids : ShownIds ids n l
+  pub knowns-are : (i : ℕ) → i < n → getD knowns i false ≡ getD l i noTag .known
+
+-- ---- what helpers' contracts use
 
 -- the counter that one step of the code takes: it can count one more in 64 bits
 abbrev pub countedOf : ℕ → ℕ

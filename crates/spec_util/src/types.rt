@@ -1,7 +1,10 @@
 // The open masters, and the path walk's answer at each of them.
 
 ghost use mathlib.Core.Path.{_≡_};
-ghost use Rattle.spec_util.specs.Walk.{noTag};
+ghost use Rattle.spec_util.specs.Walk.{openTag, noTag};
+
+// A record has places for so many open masters.
+pub const MOST_OPEN: usize = 32;
 
 // An open master. The size means nothing where it is not known.
 pub struct OpenTag {
@@ -12,17 +15,24 @@ pub struct OpenTag {
     pub data_start: u64,
 }
 
+// An open master; a size that is not known is given as 0.
+pub fn open_tag(id: u64, known: bool, size: u64, tag_start: u64, data_start: u64) -> OpenTag
+    ensures { λ r. ⌜ r ≡ openTag id known size «tag_start» «data_start» ⌝ }
+{
+    OpenTag {
+        id,
+        known,
+        size,
+        tag_start,
+        data_start,
+    }
+}
+
 // What an empty place holds.
 pub fn no_tag() -> OpenTag
     ensures { λ r. ⌜ r ≡ noTag ⌝ }
 {
-    OpenTag {
-        id: 0,
-        known: false,
-        size: 0,
-        tag_start: 0,
-        data_start: 0,
-    }
+    open_tag(0, false, 0, 0, 0)
 }
 
 // The walk ends with an answer, or goes on at this marker with this counter.

@@ -1,13 +1,14 @@
-// `validate_tag_path` of spec_util.rs, and its steps, for a caller that keeps the open masters in a record of its own.
+// `validate_tag_path` of spec_util.rs over lent words, its walk for a caller that has the path at hand, and the walk's
+// steps.
 
 ghost use mathlib.Core.Path.{_≡_};
 ghost use Prim.Native.Nat.{_-_, _^_, min, _<_};
-ghost use lib.ListN.{length, take};
-ghost use Rattle.table.specs.Table.{tableOf, partsOf, within};
-ghost use Rattle.spec_util.specs.Walk.{overMax, underMin, isIdAt, walkGlobal, walkPart, countedOf, unknownAndEnded, walkMaster, minMet, walkEnd, validateTagPath};
+ghost use lib.ListN.{length};
+ghost use Rattle.table.specs.Table.{tableOf, partsOf, partsIn};
+ghost use Rattle.spec_util.specs.Walk.{mostOpen, overMax, underMin, isIdAt, walkGlobal, walkPart, countedOf, unknownAndEnded, walkMaster, minMet, walkEnd, walkFrom, mastersShown, validateTagPath};
 use crate::ended::is_ended_by;
 use crate::ids::is_id_of;
-use crate::types::OpenTag;
+use crate::types::MOST_OPEN;
 use crate::types::Walk;
 use table::lookup::get_path_by_id;
 use table::parts::path_length;
@@ -16,6 +17,7 @@ use table::types::Bound;
 use table::types::Path;
 use table::types::PathPart;
 
+// Whether a count is over a bound.
 fn over_max(n: u64, max: Bound) -> bool
     ensures { λ r. ⌜ r ≡ overMax n max ⌝ }
 {
@@ -25,6 +27,7 @@ fn over_max(n: u64, max: Bound) -> bool
     }
 }
 
+// Whether a count is below a bound.
 fn under_min(n: u64, min: Bound) -> bool
     ensures { λ r. ⌜ r ≡ underMin n min ⌝ }
 {
@@ -34,8 +37,9 @@ fn under_min(n: u64, min: Bound) -> bool
     }
 }
 
+// Whether part i of a path is there, and is this ID.
 fn is_id_at(parts: &[u64], path: Path, i: usize, id: u64) -> bool
-    ensures { λ r. ⌜ r ≡ isIdAt (within (partsOf (now (parts .entry))) path) i id ⌝ }
+    ensures { λ r. ⌜ r ≡ isIdAt (partsIn (partsOf (now (parts .entry))) path) i id ⌝ }
 {
     if path_length(parts, path) <= i {
         return false;
@@ -53,8 +57,8 @@ fn walk_global(
     least: Bound,
     most: Bound,
 ) -> Walk
-    requires { ⌜ marker < length (within (partsOf (now parts)) path) ⌝ }
-    ensures { λ r. ⌜ r ≡ walkGlobal (within (partsOf (now (parts .entry))) path) «master_id» marker n least most ⌝ }
+    requires { ⌜ marker < length (partsIn (partsOf (now parts)) path) ⌝ }
+    ensures { λ r. ⌜ r ≡ walkGlobal (partsIn (partsOf (now (parts .entry))) path) «master_id» marker n least most ⌝ }
 {
     if over_max(n, most) {
         return Walk::Refuse;
@@ -74,7 +78,7 @@ fn walk_global(
 // A master in the walk, where the new ID does not end it.
 fn walk_part(parts: &[u64], path: Path, master_id: u64, marker: usize, counter: u64) -> Walk
     requires { ⌜ counter < 2 ^ 64 - 1 ⌝ }
-    ensures { λ r. ⌜ r ≡ walkPart (within (partsOf (now (parts .entry))) path) «master_id» marker counter ⌝ }
+    ensures { λ r. ⌜ r ≡ walkPart (partsIn (partsOf (now (parts .entry))) path) «master_id» marker counter ⌝ }
 {
     if path_length(parts, path) <= marker {
         return Walk::Refuse;
@@ -101,6 +105,7 @@ fn walk_part(parts: &[u64], path: Path, master_id: u64, marker: usize, counter: 
     }
 }
 
+// A counter that can count one more.
 fn counted(counter: u64) -> u64
     ensures { λ r. ⌜ (r ≡ countedOf counter) × (r < 2 ^ 64 - 1) ⌝ }
 {
@@ -110,6 +115,7 @@ fn counted(counter: u64) -> u64
     0xffff_ffff_ffff_fffe
 }
 
+// Whether a master has an Unknown size and the new ID ends it.
 fn unknown_and_ended(
     entries: &[u64],
     parts: &[u64],
@@ -125,7 +131,8 @@ fn unknown_and_ended(
     is_ended_by(entries, parts, master_id, tag_id)
 }
 
-// One open master in the walk of `tag_id` along its path. A counter of 2^64 - 1, which no walk reaches, is taken as one less.
+// One open master in the walk of `tag_id` along its path. A counter of 2^64 - 1, which no walk reaches, is taken as one
+// less.
 pub fn walk_master(
     entries: &[u64],
     parts: &[u64],
@@ -136,7 +143,7 @@ pub fn walk_master(
     marker: usize,
     counter: u64,
 ) -> Walk
-    ensures { λ r. ⌜ r ≡ walkMaster (tableOf (now (entries .entry)) (now (parts .entry))) (within (partsOf (now (parts .entry))) path) «tag_id» «master_id» known marker (countedOf counter) ⌝ }
+    ensures { λ r. ⌜ r ≡ walkMaster (tableOf (now (entries .entry)) (now (parts .entry))) (partsIn (partsOf (now (parts .entry))) path) «tag_id» «master_id» known marker (countedOf counter) ⌝ }
 {
     if unknown_and_ended(entries, parts, known, master_id, tag_id) {
         return Walk::Accept;
@@ -144,6 +151,7 @@ pub fn walk_master(
     walk_part(parts, path, master_id, marker, counted(counter))
 }
 
+// Whether the walk may end at this last part: a Global whose min is met.
 fn min_met(part: PathPart, counter: u64) -> bool
     ensures { λ r. ⌜ r ≡ minMet part counter ⌝ }
 {
@@ -155,7 +163,7 @@ fn min_met(part: PathPart, counter: u64) -> bool
 
 // Whether the walk may end here.
 pub fn walk_end(parts: &[u64], path: Path, marker: usize, counter: u64) -> bool
-    ensures { λ r. ⌜ r ≡ walkEnd (within (partsOf (now (parts .entry))) path) marker counter ⌝ }
+    ensures { λ r. ⌜ r ≡ walkEnd (partsIn (partsOf (now (parts .entry))) path) marker counter ⌝ }
 {
     let count = path_length(parts, path);
     if count <= marker {
@@ -169,41 +177,43 @@ pub fn walk_end(parts: &[u64], path: Path, marker: usize, counter: u64) -> bool
 
 // A record has places for 32 masters.
 pub fn at_most_32(count: usize) -> usize
-    ensures { λ r. ⌜ r ≡ min count 32 ⌝ }
+    ensures { λ r. ⌜ r ≡ min count mostOpen ⌝ }
 {
-    if count < 32 {
+    if count < MOST_OPEN {
         return count;
     }
-    32
+    MOST_OPEN
 }
 
-// The first `count` of the open masters, outermost first.
-pub fn validate_tag_path(
+// The least of a count and two lengths.
+fn least_of(count: usize, ids: usize, knowns: usize) -> usize
+    ensures { λ r. ⌜ r ≡ min count (min ids knowns) ⌝ }
+{
+    if ids < knowns {
+        return if count < ids { count } else { ids };
+    }
+    if count < knowns { count } else { knowns }
+}
+
+// The walk of `id` along a path that is at hand, over the first `n` open masters, outermost first: their IDs, and
+// whether their sizes are known. What lies past the lent words is not there.
+pub fn walk_along(
     entries: &[u64],
     parts: &[u64],
-    tag_id: u64,
-    doc_path: [OpenTag; 32],
-    count: usize,
+    path: Path,
+    id: u64,
+    ids: &[u64],
+    knowns: &[bool],
+    n: usize,
 ) -> bool
-    ensures { λ r. ⌜ r ≡ validateTagPath (tableOf (now (entries .entry)) (now (parts .entry))) «tag_id» (take count «doc_path») ⌝ }
+    ensures { λ r. ⌜ r ≡ walkFrom (tableOf (now (entries .entry)) (now (parts .entry))) (partsIn (partsOf (now (parts .entry))) path) id 0 0 (mastersShown (now (ids .entry)) (now (knowns .entry)) n) ⌝ }
 {
-    let path = get_path_by_id(entries, parts, tag_id);
-    let n = at_most_32(count);
+    let count = least_of(n, ids.len(), knowns.len());
     let mut marker: usize = 0;
     let mut counter: u64 = 0;
     let mut i: usize = 0;
-    while i < n {
-        let master = doc_path[i];
-        match walk_master(
-            entries,
-            parts,
-            path,
-            tag_id,
-            master.id,
-            master.known,
-            marker,
-            counter,
-        ) {
+    while i < count {
+        match walk_master(entries, parts, path, id, ids[i], knowns[i], marker, counter) {
             Walk::Accept => {
                 return true;
             }
@@ -221,4 +231,19 @@ pub fn validate_tag_path(
         i += 1;
     }
     walk_end(parts, path, marker, counter)
+}
+
+// Whether `tag_id` may stand in the first `count` open masters, as `walk_along` takes them: its path is looked up here.
+pub fn validate_tag_path(
+    entries: &[u64],
+    parts: &[u64],
+    tag_id: u64,
+    ids: &[u64],
+    knowns: &[bool],
+    count: usize,
+) -> bool
+    ensures { λ r. ⌜ r ≡ validateTagPath (tableOf (now (entries .entry)) (now (parts .entry))) «tag_id» (mastersShown (now (ids .entry)) (now (knowns .entry)) count) ⌝ }
+{
+    let path = get_path_by_id(entries, parts, tag_id);
+    walk_along(entries, parts, path, tag_id, ids, knowns, count)
 }

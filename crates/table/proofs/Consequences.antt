@@ -7,15 +7,15 @@ use borrow.Author.Tests.{eqb-true}
 use native.Mathlib.Omega.{arith}
 use lib.Dec.{eqb}
 use lib.ListN.{length, length-append}
-use Rattle.table.specs.Lists.{every}
+use Rattle.basics.specs.Lists.{every}
 use Rattle.table.specs.Table.{Entry, entryFor, dataTypeOf, pathOf}
 use Rattle.table.specs.Check.{allowedId, isId, onlyIds}
 use Rattle.table.specs.declared.types.TagDataType.the-variants.{Untyped, Master}
 use Rattle.table.specs.declared.types.PathPart.{PathPart}
 use Rattle.table.specs.declared.types.PathPart.the-variants.{Id}
 use Rattle.table.proofs.Entries.{for-every}
-use Rattle.table.proofs.Rules.{Masters, OwnPaths, no-part}
-use Rattle.table.proofs.Passed.{PassedTable}
+use Rattle.table.specs.Passed.{Masters, OwnPaths, PassedTable}
+use Rattle.table.proofs.Rules.{no-part}
 
 -- an ID with a type has an entry of its own
 pub own-entry : (t : List Entry) (id : ℕ) → (dataTypeOf t id ≡ Untyped → ⊥) → entryFor t id .id ≡ id

@@ -1,19 +1,21 @@
--- The entries of a table: how many there are, what stands at a place, the look-up as a loop over the places, and that an entry's range
--- holds its path. Assumes nothing.
+-- The entries of a table: how many there are, what stands at a place, the look-up as the first place with an ID, and
+-- that an entry's range holds its path. Assumes nothing.
 use Prim.Native.Nat.{ℕ, zero, suc, _+_, _*_, _/_, _≤_, _<_, min}
-use mathlib.Core.Path.{_≡_, refl, ap}
+use mathlib.Core.Path.{_≡_, refl, sym, ap, _∙_}
 use mathlib.Core.List.{List, [], _∷_}
-use borrow.Author.Tests.{eq-eqb, ne-eqb}
+use borrow.Author.Tests.{eq-eqb, ne-eqb, lt-ltb, le-ltb}
 use native.Mathlib.Decide.{decLe}
 use native.Mathlib.Nat.{zero-min, suc-min-suc}
-use native.Mathlib.Numerals.{add-one}
 use native.Mathlib.Omega.{arith}
-use lib.Dec.{eqb}
-use lib.ListN.{length, getD, take, drop, drop-of-length-le, length-drop, List·getD-eq-default}
-use lib.Seq.{drop-cons, take-nil}
-use Rattle.table.specs.Table.{Entry, partsOf, within, clipped, entryOf, tableOf, unlisted, entryFor, pathOf, rangeOf}
+use lib.Dec.{eqb, ltb}
+use lib.ListN.{length, getD, take, drop, length-drop, List·getD-eq-default}
+use lib.Seq.{take-nil, getD-take, length-take-le}
+use Rattle.table.specs.Table.{Entry, partsOf, partsIn, clipped, entryOf, tableOf, unlisted, entryFor, pathOf, rangeOf, FirstWith}
+use Rattle.basics.specs.Lists.{any}
+use Rattle.table.specs.Check.{listed}
 use Rattle.table.specs.declared.types.Path.{Path}
-use Rattle.table.proofs.Loops.{either}
+use Rattle.basics.proofs.Every.{any-at, any-of-none}
+use Rattle.basics.proofs.Bools.{either}
 use Rattle.table.proofs.Words.{length-fours, fours-at}
 
 module _ (es ps : List ℕ) where
@@ -34,18 +36,50 @@ module _ (es ps : List ℕ) where
   unfolding entryOf
   id-at i h = ap (λ (e : Entry). e .id) (table-at i h)
 
-module _ (t : List Entry) (id i : ℕ) where
-  pub for-here : i < length t → getD t i unlisted .id ≡ id → entryFor (drop i t) id ≡ getD t i unlisted
-  unfolding entryFor
-  for-here h e = rw (drop-cons t i unlisted h, eq-eqb _ _ e)
+-- the first entry with an ID is what is looked up
+first-entry : (t : List Entry) (id r : ℕ) → r ≤ length t → ((j : ℕ) → j < r → getD t j unlisted .id ≡ id → ⊥)
+    → (r < length t → getD t r unlisted .id ≡ id) → entryFor t id ≡ getD t r unlisted
+unfolding entryFor
+first-entry [] id r l none here = sym (List·getD-eq-default [] unlisted {n = r} (omega arith))
+first-entry (e ∷ t) id zero l none here = rw (eq-eqb (e .id) id (here (omega arith)))
+first-entry (e ∷ t) id (suc r) l none here =
+    rw (ne-eqb (e .id) id (none 0 (omega arith)))
+    (first-entry t id r (omega arith) (λ j h. none (suc j) (omega arith)) (λ h. here (omega arith)))
 
-  pub for-next : i < length t → (getD t i unlisted .id ≡ id → ⊥) → entryFor (drop i t) id ≡ entryFor (drop (i + 1) t) id
-  unfolding entryFor
-  for-next h n = rw (add-one, drop-cons t i unlisted h, ne-eqb _ _ n)
+-- and it is listed before a place where it stands before that place
+listed-where : (t : List Entry) (id n r : ℕ) → n ≤ length t → r ≤ n → ((j : ℕ) → j < r → getD t j unlisted .id ≡ id → ⊥)
+    → (r < n → getD t r unlisted .id ≡ id) → listed id (take n t) ≡ ltb r n
+unfolding listed
+listed-where t id n r fits l none here = go (decLe n r)
+  where
+    len : length (take n t) ≡ n
+    len = length-take-le n t fits
 
-  pub for-end : length t ≤ i → entryFor (drop i t) id ≡ unlisted
-  unfolding entryFor
-  for-end h = rw (drop-of-length-le t h)
+    go : Dec (n ≤ r) → any (λ (e : Entry). eqb (e .id) id) (take n t) ≡ ltb r n
+    go (yes h) =
+        any-of-none (λ (e : Entry). eqb (e .id) id) (take n t) unlisted
+        (λ j k. let m : j < n = rw len at k in ne-eqb _ _ (λ q. none j (omega arith) (sym (ap (λ (e : Entry). e .id) (getD-take n t j unlisted m)) ∙ q)))
+        ∙ sym (le-ltb r n h)
+    go (no f) =
+        let m : r < n = omega arith in
+        any-at (λ (e : Entry). eqb (e .id) id) (take n t) unlisted r (rw len m)
+        (eq-eqb _ _ (ap (λ (e : Entry). e .id) (getD-take n t r unlisted m) ∙ here m))
+        ∙ sym (lt-ltb r n m)
+
+module _ (es ps : List ℕ) (id : ℕ) {n r : ℕ} (fits : n ≤ length es / 4) (f : FirstWith es id n r) where
+  none-there : (j : ℕ) → j < r → getD (tableOf es ps) j unlisted .id ≡ id → ⊥
+  none-there j h e = f .none-before j h (sym (id-at es ps j (omega (arith, f .within))) ∙ e)
+
+  there : r < n → getD (tableOf es ps) r unlisted .id ≡ id
+  there h = id-at es ps r (omega arith) ∙ f .here h
+
+  pub for-first : n ≡ length es / 4 → entryFor (tableOf es ps) id ≡ getD (tableOf es ps) r unlisted
+  for-first e =
+      first-entry (tableOf es ps) id r (rw (length-table es ps) (omega (arith, f .within))) none-there
+      (λ h. let k : r < length es / 4 = rw (length-table es ps) at h in there (omega arith))
+
+  pub listed-first : listed id (take n (tableOf es ps)) ≡ ltb r n
+  listed-first = listed-where (tableOf es ps) id n r (rw (length-table es ps) fits) (f .within) none-there there
 
 -- what holds of each entry, and of an ID that is not listed, holds of what is looked up
 pub for-every : (P : Entry → Type 0) (t : List Entry) → P unlisted → ((i : ℕ) → i < length t → P (getD t i unlisted))
@@ -63,11 +97,11 @@ take-as-many (suc n) [] = take-nil (min (suc n) 0)
 take-as-many (suc n) (a ∷ l) = rw (suc-min-suc n (length l)) (ap (λ (m : List _). a ∷ m) (take-as-many n l))
 
 module _ (es ps : List ℕ) where
-  pub path-at : (i : ℕ) → within (partsOf ps) (getD (tableOf es ps) i unlisted .range) ≡ getD (tableOf es ps) i unlisted .path
+  pub path-at : (i : ℕ) → partsIn (partsOf ps) (getD (tableOf es ps) i unlisted .range) ≡ getD (tableOf es ps) i unlisted .path
   unfolding entryOf clipped
   path-at i = go (decLe (length es / 4) i)
     where
-      go : Dec (length es / 4 ≤ i) → within (partsOf ps) (getD (tableOf es ps) i unlisted .range) ≡ getD (tableOf es ps) i unlisted .path
+      go : Dec (length es / 4 ≤ i) → partsIn (partsOf ps) (getD (tableOf es ps) i unlisted .range) ≡ getD (tableOf es ps) i unlisted .path
       go (yes h) = rw (table-past es ps i h)
       go (no n) =
           let first = getD es (4 * i + 2) 0 in
@@ -75,8 +109,8 @@ module _ (es ps : List ℕ) where
           (take-as-many (getD es (4 * i + 3) 0) (drop first (partsOf ps)))
 
   -- the parts in the range that is looked up are the path
-  pub path-in : (id : ℕ) → within (partsOf ps) (rangeOf (tableOf es ps) id) ≡ pathOf (tableOf es ps) id
-  path-in id = for-every (λ e. within (partsOf ps) (e .range) ≡ e .path) (tableOf es ps) refl (λ i h. path-at i) id
+  pub path-in : (id : ℕ) → partsIn (partsOf ps) (rangeOf (tableOf es ps) id) ≡ pathOf (tableOf es ps) id
+  path-in id = for-every (λ e. partsIn (partsOf ps) (e .range) ≡ e .path) (tableOf es ps) refl (λ i h. path-at i) id
 
-  pub path-of : (id : ℕ) {r : Path} → r ≡ rangeOf (tableOf es ps) id → within (partsOf ps) r ≡ pathOf (tableOf es ps) id
+  pub path-of : (id : ℕ) {r : Path} → r ≡ rangeOf (tableOf es ps) id → partsIn (partsOf ps) r ≡ pathOf (tableOf es ps) id
   path-of id q = rw q (path-in id)

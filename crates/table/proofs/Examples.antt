@@ -3,31 +3,18 @@ use Prim.Native.Nat.{ℕ}
 use mathlib.Core.Path.{_≡_, refl}
 use mathlib.Core.Bool.{true, false}
 use mathlib.Core.List.{List, [], _∷_, _++_}
-use lib.Count.{leadingZeros}
-use Rattle.tools.specs.Vint.{isVint}
-use Rattle.table.specs.Lists.{every, any}
-use Rattle.table.specs.Table.{Entry, threes, fours, boundOf, partOf, sameBound, samePart, samePath, kindOf, isMaster, clipped, entryOf, tableOf, entryFor, dataTypeOf, pathOf}
-use Rattle.table.specs.Shape.{goodPart, goodParts, goodEntry, goodEntries, goodShape}
-use Rattle.table.specs.Check.{allowedId, listed, onlyIds, masterOfIds, masterOrGlobal, allMasters, ownPaths, keeps, firstBroken, faultOr, checkFrom, checkTable}
+use Rattle.table.proofs.Computing.{tableComputes}
+use Rattle.table.specs.Table.{dataTypeOf, pathOf}
+use Rattle.table.specs.BenchTable.{benchEntries, benchParts, bench}
+use Rattle.table.specs.Shape.{goodShape}
+use Rattle.table.specs.Check.{checkTable}
 use Rattle.table.specs.declared.types.TagDataType.the-variants.{Untyped, Master, UnsignedInt, Binary, Float}
 use Rattle.table.specs.declared.types.Bound.the-variants.{NotGiven}
 use Rattle.table.specs.declared.types.PathPart.the-variants.{Id, Global}
 use Rattle.table.specs.declared.types.Rule.the-variants.{NotAVint, Repeated, GlobalInMaster, NoMaster, OtherPath}
 use Rattle.table.specs.declared.types.Checked.the-variants.{Passed, Fault}
 
--- Session, Feed, Amount, Unit, Blob, Shift, Rate, Void
-abbrev pub benchEntries : List ℕ
-benchEntries =
-    0x4E01 ∷ 0 ∷ 0 ∷ 0 ∷ 0xA1 ∷ 0 ∷ 0 ∷ 1 ∷ 0xA2 ∷ 1 ∷ 0 ∷ 2 ∷ 0xA3 ∷ 3 ∷ 0 ∷ 2 ∷
-    0xA4 ∷ 4 ∷ 0 ∷ 2 ∷ 0xA5 ∷ 2 ∷ 0 ∷ 2 ∷ 0xA6 ∷ 5 ∷ 0 ∷ 2 ∷ 0xEC ∷ 4 ∷ 2 ∷ 1 ∷ []
-
--- in Session, in Feed; anywhere
-abbrev pub benchParts : List ℕ
-benchParts = 0 ∷ 0x4E01 ∷ 0 ∷ 0 ∷ 0xA1 ∷ 0 ∷ 1 ∷ 0 ∷ 0 ∷ []
-
-abbrev pub bench : List Entry
-bench = tableOf benchEntries benchParts
-
+-- what is looked up in the bench table
 pub record LookUps : Type 0 where
   pub session : (dataTypeOf bench 0x4E01 ≡ Master) × (pathOf bench 0x4E01 ≡ [])
   pub feed : (dataTypeOf bench 0xA1 ≡ Master) × (pathOf bench 0xA1 ≡ Id 0x4E01 ∷ [])
@@ -37,7 +24,7 @@ pub record LookUps : Type 0 where
   pub none : (dataTypeOf bench 0xEE ≡ Untyped) × (pathOf bench 0xEE ≡ [])
 
 pub look-ups : LookUps
-unfolding threes fours boundOf partOf kindOf clipped entryOf tableOf entryFor
+unfolding tableComputes
 look-ups = record {
   session = (refl, refl);
   feed = (refl, refl);
@@ -73,7 +60,7 @@ pub record Checks : Type 0 where
   pub unused : goodShape [] (0 ∷ 0x81 ∷ 1 ∷ []) ≡ false
 
 pub checks : Checks
-unfolding leadingZeros isVint every any threes fours boundOf partOf sameBound samePart samePath kindOf isMaster clipped entryOf tableOf entryFor goodPart goodParts goodEntry goodEntries goodShape allowedId listed onlyIds masterOfIds masterOrGlobal allMasters ownPaths keeps firstBroken faultOr checkFrom checkTable
+unfolding tableComputes
 checks = record {
   bench-passes = refl;
   empty-passes = refl;

@@ -1,5 +1,5 @@
--- The check as the code goes about it: rule 35 as a loop over a path, the rules of one entry in their order, and the check as a loop over
--- the entries. Assumes nothing.
+-- The check as the code goes about it: rule 35 as a loop over a path, the rules of one entry in their order, and the
+-- check as a loop over the entries. Assumes nothing.
 use Prim.Native.Nat.{ℕ, zero, suc, _+_, _-_, _*_, _/_, _≤_, _<_}
 use mathlib.Core.Path.{_≡_, sym, ap}
 use mathlib.Core.Bool.{true, false, not}
@@ -8,7 +8,7 @@ use native.Mathlib.Numerals.{add-one}
 use native.Mathlib.Omega.{arith}
 use lib.ListN.{length, getD, take, drop, drop-of-length-le}
 use lib.Seq.{drop-cons, take-suc}
-use Rattle.table.specs.Table.{Entry, partsOf, within, tableOf, unlisted, specOf, pathOf, samePath}
+use Rattle.table.specs.Table.{Entry, partsOf, partsIn, tableOf, unlisted, specOf, pathOf, samePath}
 use Rattle.table.specs.Check.{allowedId, listed, masterOfIds, allMasters, ownPaths, keeps, judged, faultOr, checkFrom}
 use Rattle.table.specs.declared.types.Bound.{Bound}
 use Rattle.table.specs.declared.types.PathPart.{PathPart}
@@ -52,15 +52,15 @@ module _ (es ps : List ℕ) (i : ℕ) (h : i < length es / 4) where
   kept-32 = ap (λ (id : ℕ). not (listed id (take i (tableOf es ps)))) (id-at es ps i h)
 
 module _ (es ps : List ℕ) (i : ℕ) {s : Spec} (read : s ≡ specOf (getD (tableOf es ps) i unlisted)) where
-  pub kept-33 : keeps (tableOf es ps) i (getD (tableOf es ps) i unlisted) GlobalInMaster ≡ masterOfIds (s .kind) (within (partsOf ps) (s .path))
+  pub kept-33 : keeps (tableOf es ps) i (getD (tableOf es ps) i unlisted) GlobalInMaster ≡ masterOfIds (s .kind) (partsIn (partsOf ps) (s .path))
   unfolding keeps
   kept-33 = rw read (ap (masterOfIds (getD (tableOf es ps) i unlisted .kind)) (sym (path-at es ps i)))
 
-  pub kept-34 : keeps (tableOf es ps) i (getD (tableOf es ps) i unlisted) NoMaster ≡ allMasters (tableOf es ps) (within (partsOf ps) (s .path))
+  pub kept-34 : keeps (tableOf es ps) i (getD (tableOf es ps) i unlisted) NoMaster ≡ allMasters (tableOf es ps) (partsIn (partsOf ps) (s .path))
   unfolding keeps
   kept-34 = rw read (ap (allMasters (tableOf es ps)) (sym (path-at es ps i)))
 
-  pub kept-35 : keeps (tableOf es ps) i (getD (tableOf es ps) i unlisted) OtherPath ≡ ownPaths (tableOf es ps) [] (within (partsOf ps) (s .path))
+  pub kept-35 : keeps (tableOf es ps) i (getD (tableOf es ps) i unlisted) OtherPath ≡ ownPaths (tableOf es ps) [] (partsIn (partsOf ps) (s .path))
   unfolding keeps
   kept-35 = rw read (ap (ownPaths (tableOf es ps) []) (sym (path-at es ps i)))
 

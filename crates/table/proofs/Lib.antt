@@ -1,13 +1,12 @@
 pub mod Words
-pub mod Loops
 pub mod Ranges
 pub mod Same
 pub mod Entries
 pub mod Judging
-pub mod Every
 pub mod Rules
 pub mod Shaped
 pub mod Passed
 pub mod Consequences
 pub mod Unique
 pub mod Examples
+pub mod Computing

@@ -1,5 +1,6 @@
--- What the table check says: it passes a table exactly where the five rules hold of every entry, and a fault that it names is the lowest
--- entry that breaks a rule, with the first rule that it breaks. Later proofs cite `PassedTable` and no text of the check. Assumes nothing.
+-- What the table check says: it passes a table exactly where the five rules hold of every entry, and a fault that it
+-- names is the lowest entry that breaks a rule, with the first rule that it breaks. Later proofs cite `PassedTable` and
+-- no text of the check. Assumes nothing.
 use Prim.Native.Nat.{ℕ, zero, suc, _+_, _≤_, _<_}
 use mathlib.Core.Path.{_≡_, refl, sym, ap, ap₂, subst, _∙_}
 use mathlib.Core.Bool.{Bool, true, false, true≢false, cond, _&&_, and-eq-true-iff}
@@ -11,10 +12,11 @@ use native.Mathlib.Nat.{eq-or-lt-of-le}
 use native.Mathlib.Omega.{arith}
 use lib.Dec.{ltb, eqb}
 use lib.ListN.{length}
-use Rattle.table.specs.Lists.{every}
+use Rattle.basics.specs.Lists.{every}
 use Rattle.table.specs.Table.{Entry, tableOf}
 use Rattle.table.specs.Shape.{goodShape}
 use Rattle.table.specs.Check.{ruleNumber, allowedId, onlyIds, keeps, rules, firstBroken, judged, faultOr, checkFrom, checkTable}
+use Rattle.table.specs.Passed.{at, Masters, OwnPaths, Kept, PassedTable, LowestFault}
 use Rattle.table.specs.declared.types.TagDataType.the-variants.{Master}
 use Rattle.table.specs.declared.types.Rule.{Rule}
 use Rattle.table.specs.declared.types.Rule.the-variants.{NotAVint, Repeated, GlobalInMaster, NoMaster, OtherPath}
@@ -22,28 +24,8 @@ use Rattle.table.specs.declared.types.Judged.{Judged}
 use Rattle.table.specs.declared.types.Judged.the-variants.{Sound, Breaks}
 use Rattle.table.specs.declared.types.Checked.{Checked}
 use Rattle.table.specs.declared.types.Checked.the-variants.{BadShape, Passed, Fault}
-use Rattle.table.proofs.Every.{every-member}
-use Rattle.table.proofs.Rules.{at, Masters, OwnPaths, Kept, kept-sound, kept-complete}
-
--- what a table that passed has
-pub record PassedTable (t : List Entry) : Type 0 where
-  -- 31: "the ID is one that `is_vint` accepts"
-  pub allowed : (i : ℕ) → i < length t → allowedId (at t i .id) ≡ true
-  -- 32: each ID stands once
-  pub once : (i j : ℕ) → i < length t → j < length t → at t i .id ≡ at t j .id → i ≡ j
-  -- 33: "a Master's path holds IDs only"
-  pub of-ids : (i : ℕ) → i < length t → at t i .kind ≡ Master → onlyIds (at t i .path) ≡ true
-  -- 34: "every ID in a path is a Master of the table"
-  pub masters : (i : ℕ) → i < length t → Masters t (at t i .path)
-  -- 35: "an ID with only IDs before it in a path has exactly those as its own path"
-  pub own-paths : (i : ℕ) → i < length t → OwnPaths t [] (at t i .path)
-
--- the lowest entry that breaks a rule, and the first rule that it breaks
-pub record LowestFault (t : List Entry) (r : Rule) (i : ℕ) : Type 0 where
-  pub there : i < length t
-  pub broken : Kept t i r → ⊥
-  pub first : (s : Rule) → ruleNumber s < ruleNumber r → Kept t i s
-  pub lowest : (j : ℕ) → j < i → (s : Rule) → Kept t j s
+use Rattle.basics.proofs.Every.{every-member}
+use Rattle.table.proofs.Rules.{kept-sound, kept-complete}
 
 -- ---- the first broken rule of a list with numbers that ascend
 

@@ -8,38 +8,18 @@ use native.Mathlib.Omega.{arith}
 use lib.Dec.{eqb}
 use lib.ListN.{length, getD, take, length-take}
 use lib.Seq.{getD-take}
-use Rattle.table.specs.Lists.{every}
+use Rattle.basics.specs.Lists.{every}
 use Rattle.table.specs.Table.{Entry, unlisted, dataTypeOf, pathOf, isMaster, samePath}
 use Rattle.table.specs.Check.{allowedId, listed, isId, onlyIds, masterOfIds, masterOrGlobal, allMasters, ownPaths, keeps}
+use Rattle.table.specs.Passed.{at, Masters, OwnPaths, Kept}
 use Rattle.table.specs.declared.types.TagDataType.{TagDataType}
 use Rattle.table.specs.declared.types.TagDataType.the-variants.{Untyped, Master, UnsignedInt, Integer, Utf8, Binary, Float}
 use Rattle.table.specs.declared.types.PathPart.{PathPart}
 use Rattle.table.specs.declared.types.PathPart.the-variants.{Id, Global}
 use Rattle.table.specs.declared.types.Rule.{Rule}
 use Rattle.table.specs.declared.types.Rule.the-variants.{NotAVint, Repeated, GlobalInMaster, NoMaster, OtherPath}
-use Rattle.table.proofs.Every.{every-member, every-of, any-none, any-of-none}
+use Rattle.basics.proofs.Every.{every-member, every-of, any-none, any-of-none}
 use Rattle.table.proofs.Same.{path-same, path-self}
-
--- entry i of a table
-abbrev pub at : List Entry → ℕ → Entry
-at t i = getD t i unlisted
-
--- every ID in the path is a Master of the table
-abbrev pub Masters : List Entry → List PathPart → Type 0
-Masters t path = (x : ℕ) → List·Memᴰ (Id x) path → dataTypeOf t x ≡ Master
-
--- an ID with only IDs before it in the path, which follow the IDs pre, has exactly those as its own path
-abbrev pub OwnPaths : List Entry → List PathPart → List PathPart → Type 0
-OwnPaths t pre path =
-    (before : List PathPart) (x : ℕ) (after : List PathPart) → path ≡ before ++ Id x ∷ after → onlyIds before ≡ true → pathOf t x ≡ pre ++ before
-
--- what each rule says of entry i
-abbrev pub Kept : List Entry → ℕ → Rule → Type 0
-Kept t i NotAVint = allowedId (at t i .id) ≡ true
-Kept t i Repeated = (j : ℕ) → j < i → at t j .id ≡ at t i .id → ⊥
-Kept t i GlobalInMaster = at t i .kind ≡ Master → onlyIds (at t i .path) ≡ true
-Kept t i NoMaster = Masters t (at t i .path)
-Kept t i OtherPath = OwnPaths t [] (at t i .path)
 
 -- ---- 33 and 34
 

@@ -1,15 +1,21 @@
--- No second answer satisfies a contract: of each public routine, two answers that the contract, as Rattle reads it, allows for the same
--- arguments are equal. Assumes nothing.
+-- No second answer satisfies a contract: of each public routine, two answers that the contract, as Rattle reads it,
+-- allows for the same arguments are equal. Assumes nothing.
 use Prim.Native.Nat.{ℕ}
-use mathlib.Core.Path.{_≡_, sym, _∙_}
+use mathlib.Core.Path.{_≡_}
 use mathlib.Core.Bool.{Bool}
+use mathlib.Core.List.{List}
 use contract.Lifetimes.{Lfts}
 use borrow.Fn.Kinds.{Dens}
+use Rattle.tools.proofs.Unique.{same}
 use Rattle.table.specs.declared.types.TagDataType.{TagDataType}
 use Rattle.table.specs.declared.types.PathPart.{PathPart}
 use Rattle.table.specs.declared.types.Path.{Path}
 use Rattle.table.specs.declared.types.Spec.{Spec}
 use Rattle.table.specs.declared.types.Checked.{Checked}
+use Rattle.table.proofs.bench.entries.Kinds as entries-kinds
+use Rattle.table.proofs.bench.entries.Reads as entries
+use Rattle.table.proofs.bench.parts.Kinds as parts-kinds
+use Rattle.table.proofs.bench.parts.Reads as parts
 use Rattle.table.proofs.parts.part_at.Kinds as part-at-kinds
 use Rattle.table.proofs.parts.part_at.Reads as part-at
 use Rattle.table.proofs.parts.path_length.Kinds as path-length-kinds
@@ -39,9 +45,13 @@ use Rattle.table.proofs.check.only_ids.Reads as only-ids
 use Rattle.table.proofs.check.check_table.Kinds as check-table-kinds
 use Rattle.table.proofs.check.check_table.Reads as check-table
 
--- what is equal to one thing is one
-pub same : {A : Type 0} {a x y : A} → x ≡ a → y ≡ a → x ≡ y
-same p q = p ∙ sym q
+pub entries-determined : (κs : Lfts 0) (a : Dens κs entries-kinds.ps) (r r' : List ℕ)
+    → ((e : _) → entries.Post κs a r e → entries.Post κs a r' e → r ≡ r')
+entries-determined κs a r r' e = same
+
+pub parts-determined : (κs : Lfts 0) (a : Dens κs parts-kinds.ps) (r r' : List ℕ)
+    → ((e : _) → parts.Post κs a r e → parts.Post κs a r' e → r ≡ r')
+parts-determined κs a r r' e = same
 
 pub part-at-determined : (κs : Lfts 1) (a : Dens κs part-at-kinds.ps) (r r' : PathPart)
     → ((e : _) → part-at.Post κs a r e → part-at.Post κs a r' e → r ≡ r')

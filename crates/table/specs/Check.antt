@@ -1,12 +1,12 @@
--- The table check: document 01, "The lent table": "10 for a bad shape; else it passes the table, or names the lowest faulty entry and
--- its first broken rule".
+-- The table check: document 01, "The lent table": "10 for a bad shape; else it passes the table, or names the lowest
+-- faulty entry and its first broken rule".
 use Prim.Native.Nat.{ℕ, zero, suc, _+_}
 use mathlib.Core.Bool.{Bool, true, false, cond, not, _&&_}
 use mathlib.Core.List.{List, [], _∷_, _++_}
 use lib.Dec.{eqb}
 use lib.ListN.{length, take, getD}
 use Rattle.tools.specs.Vint.{isVint}
-use Rattle.table.specs.Lists.{every, any}
+use Rattle.basics.specs.Lists.{every, any}
 use Rattle.table.specs.Shape.{goodShape}
 use Rattle.table.specs.Table.{Entry, tableOf, unlisted, dataTypeOf, pathOf, isMaster, samePath}
 use Rattle.table.specs.declared.types.TagDataType.{TagDataType}
@@ -67,7 +67,8 @@ masterOrGlobal t (Global min max) = true
 unfoldable pub allMasters : List Entry → List PathPart → Bool
 allMasters t path = every (masterOrGlobal t) path
 
--- 35: "an ID with only IDs before it in a path has exactly those as its own path"; the path is cut in what stands before and the rest
+-- 35: "an ID with only IDs before it in a path has exactly those as its own path"; the path is cut in what stands
+-- before and the rest
 unfoldable pub ownPaths : List Entry → List PathPart → List PathPart → Bool
 ownPaths t before [] = true
 ownPaths t before (Id x ∷ rest) = samePath (pathOf t x) before && ownPaths t (before ++ (Id x ∷ [])) rest

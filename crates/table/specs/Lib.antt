@@ -1,4 +1,5 @@
-pub mod Lists
 pub mod Table
 pub mod Shape
 pub mod Check
+pub mod Passed
+pub mod BenchTable

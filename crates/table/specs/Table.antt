@@ -1,10 +1,11 @@
--- The lent table: document 01, "The lent table": two lists of 64-bit words, read as entries and as path parts. Any words are read:
--- a table of bad shape has entries and parts too.
-use Prim.Native.Nat.{ℕ, _-_, min}
+-- The lent table: document 01, "The lent table": two lists of 64-bit words, read as entries and as path parts. Any
+-- words are read: a table of bad shape has entries and parts too.
+use Prim.Native.Nat.{ℕ, _-_, _*_, _≤_, _<_, min}
 use mathlib.Core.Bool.{Bool, true, false, cond, _&&_}
 use mathlib.Core.List.{List, [], _∷_}
+use mathlib.Core.Path.{_≡_}
 use lib.Dec.{eqb}
-use lib.ListN.{length, take, drop}
+use lib.ListN.{length, getD, take, drop}
 use Rattle.table.specs.declared.types.TagDataType.{TagDataType}
 use Rattle.table.specs.declared.types.TagDataType.the-variants.{Untyped, Master, UnsignedInt, Integer, Utf8, Binary, Float}
 use Rattle.table.specs.declared.types.Bound.{Bound}
@@ -46,22 +47,24 @@ abbrev pub partsOf : List ℕ → List PathPart
 partsOf ws = threes partOf ws
 
 -- the parts of a range, as many of them as there are
-abbrev pub within : List PathPart → Path → List PathPart
-within ps p = take (p .count) (drop (p .first) ps)
+abbrev pub partsIn : List PathPart → Path → List PathPart
+partsIn ps p = take (p .count) (drop (p .first) ps)
 
--- two bounds, two parts and two paths are equal as values, wherever they lie
+-- two bounds are equal as values
 unfoldable pub sameBound : Bound → Bound → Bool
 sameBound NotGiven NotGiven = true
 sameBound NotGiven (Given n) = false
 sameBound (Given m) NotGiven = false
 sameBound (Given m) (Given n) = eqb m n
 
+-- two parts are equal as values
 unfoldable pub samePart : PathPart → PathPart → Bool
 samePart (Id x) (Id y) = eqb x y
 samePart (Id x) (Global min max) = false
 samePart (Global min max) (Id y) = false
 samePart (Global min max) (Global least most) = sameBound min least && sameBound max most
 
+-- two paths are equal as values, wherever they lie
 unfoldable pub samePath : List PathPart → List PathPart → Bool
 samePath [] [] = true
 samePath [] (q ∷ qs) = false
@@ -70,7 +73,8 @@ samePath (p ∷ ps) (q ∷ qs) = samePart p q && samePath ps qs
 
 -- ---- entries
 
--- "type (0 Master, 1 Unsigned, 2 Integer, 3 Utf8, 4 Binary, 5 Float)"; a word above 5, which is of bad shape, counts as 5
+-- "type (0 Master, 1 Unsigned, 2 Integer, 3 Utf8, 4 Binary, 5 Float)"; a word above 5, which is of bad shape, counts as
+-- 5
 unfoldable pub kindOf : ℕ → TagDataType
 kindOf word =
     cond (eqb word 0) Master
@@ -111,7 +115,7 @@ pub record Entry : Type 0 where
   pub path : List PathPart
   pub range : Path
 
--- "ID, type, first part, number of parts"
+-- an entry of its four words: ID, type, first part, number of parts
 unfoldable pub entryOf : List PathPart → ℕ → ℕ → ℕ → ℕ → Entry
 entryOf ps id kind first count = record {
   id = id;
@@ -135,19 +139,30 @@ unfoldable pub entryFor : List Entry → ℕ → Entry
 entryFor [] id = unlisted
 entryFor (e ∷ t) id = cond (eqb (e .id) id) e (entryFor t id)
 
--- the type, the path and where the path stands, of an ID
+-- the type of an ID
 abbrev pub dataTypeOf : List Entry → ℕ → TagDataType
 dataTypeOf t id = entryFor t id .kind
 
+-- the path of an ID
 abbrev pub pathOf : List Entry → ℕ → List PathPart
 pathOf t id = entryFor t id .path
 
+-- where among the parts the path of an ID stands
 abbrev pub rangeOf : List Entry → ℕ → Path
 rangeOf t id = entryFor t id .range
 
--- type and range at once
+-- what an entry says, type and range at once
 abbrev pub specOf : Entry → Spec
 specOf e = record { kind = e .kind; path = e .range }
 
+-- what the table says of an ID
 abbrev pub specFor : List Entry → ℕ → Spec
 specFor t id = specOf (entryFor t id)
+
+-- ---- what a helper's contract uses
+
+-- r is the place of the first of the first n entries whose words say this ID, or n where none does
+pub record FirstWith (es : List ℕ) (id n r : ℕ) : Type 0 where
+  pub within : r ≤ n
+  pub none-before : (j : ℕ) → j < r → getD es (4 * j) 0 ≡ id → ⊥
+  pub here : r < n → getD es (4 * r) 0 ≡ id

@@ -4,8 +4,9 @@ ghost use mathlib.Core.Path.{_≡_};
 ghost use mathlib.Core.List.{[]};
 ghost use Prim.Native.Nat.{_/_, _≤_, _<_};
 ghost use lib.ListN.{length, take};
-ghost use Rattle.table.specs.Table.{partsOf, within, tableOf};
+ghost use Rattle.table.specs.Table.{partsOf, partsIn, tableOf};
 ghost use Rattle.table.specs.Check.{ruleNumber, checkedNumber, allowedId, listed, onlyIds, masterOfIds, masterOrGlobal, allMasters, ownPaths, judged, checkTable};
+use crate::entry::first_with;
 use crate::entry::spec_at;
 use crate::lookup::get_path_by_id;
 use crate::lookup::get_tag_data_type;
@@ -22,6 +23,7 @@ use crate::types::Rule;
 use crate::types::TagDataType;
 use tools::vint::is_vint;
 
+// The rule's number in the interface.
 pub fn rule_number(rule: Rule) -> u64
     ensures { λ r. ⌜ r ≡ ruleNumber rule ⌝ }
 {
@@ -57,19 +59,12 @@ fn listed_before(entries: &[u64], parts: &[u64], id: u64, n: usize) -> bool
     requires { ⌜ n ≤ length (now entries) / 4 ⌝ }
     ensures { λ r. ⌜ r ≡ listed id (take n (tableOf (now (entries .entry)) (now (parts .entry)))) ⌝ }
 {
-    let mut i: usize = 0;
-    while i < n {
-        if entries[4 * i] == id {
-            return true;
-        }
-        i += 1;
-    }
-    false
+    first_with(entries, id, n) < n
 }
 
 // Whether a path has no Global.
 pub fn only_ids(parts: &[u64], path: Path) -> bool
-    ensures { λ r. ⌜ r ≡ onlyIds (within (partsOf (now (parts .entry))) path) ⌝ }
+    ensures { λ r. ⌜ r ≡ onlyIds (partsIn (partsOf (now (parts .entry))) path) ⌝ }
 {
     let count = path_length(parts, path);
     let mut i: usize = 0;
@@ -92,8 +87,9 @@ fn master_or_global(entries: &[u64], parts: &[u64], part: PathPart) -> bool
     }
 }
 
+// Rule 34: whether each ID of a path is a Master.
 fn all_masters(entries: &[u64], parts: &[u64], path: Path) -> bool
-    ensures { λ r. ⌜ r ≡ allMasters (tableOf (now (entries .entry)) (now (parts .entry))) (within (partsOf (now (parts .entry))) path) ⌝ }
+    ensures { λ r. ⌜ r ≡ allMasters (tableOf (now (entries .entry)) (now (parts .entry))) (partsIn (partsOf (now (parts .entry))) path) ⌝ }
 {
     let count = path_length(parts, path);
     let mut i: usize = 0;
@@ -108,7 +104,7 @@ fn all_masters(entries: &[u64], parts: &[u64], path: Path) -> bool
 
 // Rule 35, up to the first Global.
 fn own_paths(entries: &[u64], parts: &[u64], path: Path) -> bool
-    ensures { λ r. ⌜ r ≡ ownPaths (tableOf (now (entries .entry)) (now (parts .entry))) [] (within (partsOf (now (parts .entry))) path) ⌝ }
+    ensures { λ r. ⌜ r ≡ ownPaths (tableOf (now (entries .entry)) (now (parts .entry))) [] (partsIn (partsOf (now (parts .entry))) path) ⌝ }
 {
     let first = path.first;
     let count = path_length(parts, path);
@@ -132,7 +128,7 @@ fn own_paths(entries: &[u64], parts: &[u64], path: Path) -> bool
 
 // Rule 33.
 fn master_of_ids(parts: &[u64], kind: TagDataType, path: Path) -> bool
-    ensures { λ r. ⌜ r ≡ masterOfIds kind (within (partsOf (now (parts .entry))) path) ⌝ }
+    ensures { λ r. ⌜ r ≡ masterOfIds kind (partsIn (partsOf (now (parts .entry))) path) ⌝ }
 {
     if is_master(kind) {
         return only_ids(parts, path);
@@ -167,6 +163,7 @@ fn first_broken(entries: &[u64], parts: &[u64], i: usize) -> Judged
     Judged::Sound
 }
 
+// Whether a table passes; else its lowest faulty entry, with the first rule that it breaks.
 pub fn check_table(entries: &[u64], parts: &[u64]) -> Checked
     ensures { λ r. ⌜ r ≡ checkTable (now (entries .entry)) (now (parts .entry)) ⌝ }
 {

@@ -1,12 +1,14 @@
 // One entry of the table, read from its words. Helpers of this crate alone.
 
 ghost use mathlib.Core.Path.{_≡_};
-ghost use lib.ListN.{getD};
-ghost use Rattle.table.specs.Table.{kindOf, clipped, tableOf, unlisted, specOf};
+ghost use Prim.Native.Nat.{_/_, _≤_};
+ghost use lib.ListN.{length, getD};
+ghost use Rattle.table.specs.Table.{kindOf, clipped, tableOf, unlisted, specOf, FirstWith};
 use crate::types::Path;
 use crate::types::Spec;
 use crate::types::TagDataType;
 
+// The type that a word says.
 fn kind_of(word: u64) -> TagDataType
     ensures { λ r. ⌜ r ≡ kindOf word ⌝ }
 {
@@ -20,6 +22,7 @@ fn kind_of(word: u64) -> TagDataType
     }
 }
 
+// A word as a place.
 fn index(word: u64) -> usize
     ensures { λ r. ⌜ r ≡ word ⌝ }
 {
@@ -60,4 +63,19 @@ pub fn spec_at(entries: &[u64], parts: &[u64], i: usize) -> Spec
         index(entries[4 * i + 3]),
     );
     Spec { kind, path }
+}
+
+// The place of the first of the first n entries with this ID, or n.
+pub fn first_with(entries: &[u64], id: u64, n: usize) -> usize
+    requires { ⌜ n ≤ length (now entries) / 4 ⌝ }
+    ensures { λ r. ⌜ FirstWith (now (entries .entry)) id n r ⌝ }
+{
+    let mut i: usize = 0;
+    while i < n {
+        if entries[4 * i] == id {
+            return i;
+        }
+        i += 1;
+    }
+    i
 }

@@ -2,13 +2,14 @@
 
 ghost use mathlib.Core.Path.{_≡_};
 ghost use lib.ListN.{length, getD};
-ghost use Rattle.table.specs.Table.{boundOf, partOf, partsOf, within, sameBound, samePart, samePath};
+ghost use Rattle.table.specs.Table.{boundOf, partOf, partsOf, partsIn, sameBound, samePart, samePath};
 ghost use Rattle.table.specs.declared.types.PathPart.the-variants.{Id};
 use crate::entry::clip;
 use crate::types::Bound;
 use crate::types::Path;
 use crate::types::PathPart;
 
+// The bound that a word says.
 fn bound_of(word: u64) -> Bound
     ensures { λ r. ⌜ r ≡ boundOf word ⌝ }
 {
@@ -18,6 +19,7 @@ fn bound_of(word: u64) -> Bound
     Bound::Given(word - 1)
 }
 
+// The part that three words say.
 fn part_of(sort: u64, low: u64, high: u64) -> PathPart
     ensures { λ r. ⌜ r ≡ partOf sort low high ⌝ }
 {
@@ -41,7 +43,7 @@ pub fn part_at(parts: &[u64], i: usize) -> PathPart
 
 // How many parts of a range are there.
 pub fn path_length(parts: &[u64], path: Path) -> usize
-    ensures { λ r. ⌜ r ≡ length (within (partsOf (now (parts .entry))) path) ⌝ }
+    ensures { λ r. ⌜ r ≡ length (partsIn (partsOf (now (parts .entry))) path) ⌝ }
 {
     let there = clip(parts.len() / 3, path.first, path.count);
     there.count
@@ -49,7 +51,7 @@ pub fn path_length(parts: &[u64], path: Path) -> usize
 
 // Part i of a range.
 pub fn path_part(parts: &[u64], path: Path, i: usize) -> PathPart
-    ensures { λ r. ⌜ r ≡ getD (within (partsOf (now (parts .entry))) path) i (Id 0) ⌝ }
+    ensures { λ r. ⌜ r ≡ getD (partsIn (partsOf (now (parts .entry))) path) i (Id 0) ⌝ }
 {
     let first = path.first;
     if path_length(parts, path) <= i {
@@ -58,6 +60,7 @@ pub fn path_part(parts: &[u64], path: Path, i: usize) -> PathPart
     part_at(parts, first + i)
 }
 
+// Whether two bounds are equal.
 fn same_bound(a: Bound, b: Bound) -> bool
     ensures { λ r. ⌜ r ≡ sameBound a b ⌝ }
 {
@@ -73,6 +76,7 @@ fn same_bound(a: Bound, b: Bound) -> bool
     }
 }
 
+// Whether two parts are equal.
 fn same_part(a: PathPart, b: PathPart) -> bool
     ensures { λ r. ⌜ r ≡ samePart a b ⌝ }
 {
@@ -98,7 +102,7 @@ fn same_part(a: PathPart, b: PathPart) -> bool
 
 // Whether two ranges hold equal parts, wherever they lie.
 pub fn same_path(parts: &[u64], a: Path, b: Path) -> bool
-    ensures { λ r. ⌜ r ≡ samePath (within (partsOf (now (parts .entry))) a) (within (partsOf (now (parts .entry))) b) ⌝ }
+    ensures { λ r. ⌜ r ≡ samePath (partsIn (partsOf (now (parts .entry))) a) (partsIn (partsOf (now (parts .entry))) b) ⌝ }
 {
     let count = path_length(parts, a);
     if count < path_length(parts, b) {

@@ -11,11 +11,13 @@ pub enum TagDataType {
     Float,
 }
 
+// A bound of a Global.
 pub enum Bound {
     NotGiven,
     Given(u64),
 }
 
+// A part of a path: an ID, or any masters within bounds.
 pub enum PathPart {
     Id(u64),
     Global { min: Bound, max: Bound },
@@ -48,7 +50,7 @@ pub enum Judged {
     Breaks(Rule),
 }
 
-// Entries are counted from 0.
+// What the check answers. Entries are counted from 0.
 pub enum Checked {
     BadShape,
     Passed,

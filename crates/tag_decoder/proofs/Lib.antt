@@ -1,5 +1,3 @@
-pub mod Fitting
-pub mod Parts
-pub mod Told
-pub mod Unique
 pub mod Recovering
+pub mod CallLaws
+pub mod Unique

@@ -1,63 +1,61 @@
--- Recovery, place by place: what one place leaves of the record, and that the search by places with the growing after it is document 01's `scan`.
--- Assumes nothing.
-use Prim.Native.Nat.{ℕ, zero, suc, _+_, _^_, _≤_, _<_}
+-- Recovery, place by place: what one place leaves of the record, and where the search ends. Assumes nothing.
+use Prim.Native.Nat.{ℕ, suc, _+_, _^_, _≤_, _<_}
 use mathlib.Core.Path.{_≡_, refl, sym, ap, _∙_, subst}
-use mathlib.Core.Bool.{Bool, true, false, cond}
+use mathlib.Core.Bool.{true}
 use mathlib.Core.List.{List, [], _∷_}
 use native.Mathlib.Omega.{arith}
 use lib.ListN.{length, drop, length-drop, drop-of-length-le}
 use lib.Seq.{drop-drop}
 use Rattle.tools.specs.Bytes.{Octets}
 use Rattle.table.specs.Shape.{goodShape}
-use Rattle.table.specs.Table.{Entry, tableOf, partsOf, within}
+use Rattle.table.specs.Table.{Entry, tableOf, partsOf, partsIn}
 use Rattle.tag_parse.specs.Header.{readHeader}
 use Rattle.tag_parse.specs.declared.types.ReadHeader.{ReadHeader}
 use Rattle.tag_parse.specs.declared.types.ReadHeader.the-variants as header
 use Rattle.tag_parse.specs.declared.types.TagHeader.{TagHeader}
 use Rattle.tag_parse.proofs.Cases.{octets-drop}
-use Rattle.decoder_state.specs.State.{withOpen, withNotes, settledTo, grown}
-use Rattle.decoder_state.specs.OneCall.{step6, settles, step7, noted, validHeader, passes, forward, recovered, found, atPlace, scan}
-use Rattle.decoder_state.specs.declared.types.Check.{Check}
-use Rattle.decoder_state.specs.declared.types.Check.the-variants.{Pass, Fail}
-use Rattle.decoder_state.specs.declared.types.Note.{Note}
-use Rattle.decoder_state.specs.declared.types.Note.the-variants.{NoNote, Settle}
-use Rattle.decoder_state.specs.declared.types.Recovered.{Recovered}
-use Rattle.decoder_state.specs.declared.types.Search.the-variants as search
-use Rattle.decoder_state.specs.declared.types.TagDecoder.{TagDecoder}
-use Rattle.decoder_state.proofs.Good.{GoodState}
-use Rattle.decoder_state.proofs.Stays.{with-notes-good, settled-good}
-use Rattle.decoder_decide.specs.Good.{GoodRecord, GoodHeader}
-use Rattle.decoder_decide.proofs.Judged.{pick, good-header}
-use Rattle.tag_decoder.specs.Fits.{NoteFits}
-use Rattle.tag_decoder.specs.Recovery.{at, stepOn, judged, judgedAt, headerAt, readAt, placeAt, unlessOn, endOfSearch, endingAt, ending}
-use Rattle.tag_decoder.specs.declared.recovery.Place.{Place}
-use Rattle.tag_decoder.specs.declared.recovery.Place.the-variants.{Stop, Found, On}
-use Rattle.tag_decoder.specs.declared.recovery.Placed.{Placed}
-use Rattle.tag_decoder.proofs.Fitting.{note-none, note-settle, note-settles}
+use Rattle.decoder_rules.specs.Record.{withOpen, withNotes, settledTo}
+use Rattle.decoder_rules.specs.OneCall.{step6, settles, step7, noted, validHeader}
+use Rattle.decoder_rules.specs.Recovery.{at, stepOn, judged, judgedAt, headerAt, readAt, placeAt, unlessOn, endOfSearch}
+use Rattle.decoder_rules.specs.declared.types.Check.{Check}
+use Rattle.decoder_rules.specs.declared.types.Check.the-variants.{Pass, Fail}
+use Rattle.decoder_rules.specs.declared.types.Note.{Note}
+use Rattle.decoder_rules.specs.declared.types.Note.the-variants.{NoNote, Settle}
+use Rattle.decoder_rules.specs.declared.types.Search.the-variants as search
+use Rattle.decoder_rules.specs.declared.types.TagDecoder.{TagDecoder}
+use Rattle.decoder_rules.proofs.GoodState.{GoodState}
+use Rattle.decoder_rules.proofs.MoveLaws.{noted-position}
+use Rattle.decoder_rules.proofs.MovesKeepGoodState.{with-notes-good, settled-good}
+use Rattle.decoder_decide.specs.GoodViews.{GoodRecord, GoodHeader}
+use Rattle.basics.proofs.Bools.{pick}
+use Rattle.decoder_decide.proofs.GoodHeaders.{good-header}
+use Rattle.decoder_move.specs.Applies.{NoteApplies}
+use Rattle.decoder_rules.specs.declared.types.Place.{Place}
+use Rattle.decoder_rules.specs.declared.types.Place.the-variants.{Stop, Found, On}
+use Rattle.decoder_rules.specs.declared.types.PlaceResult.{PlaceResult}
+use Rattle.decoder_move.proofs.DecisionApplies.{note-none, note-settle, note-settles}
 
+-- a good state, as helpers ask it
 pub good-record : {d : TagDecoder} → GoodState d → GoodRecord d
 good-record g = record { few-open = g .open-count; few-waiting = g .waiting-count; near = g .place }
 
 -- ---- the note
 
-pub note-fits : (es ps : List ℕ) (d : TagDecoder) (h : TagHeader) → GoodHeader es ps h → NoteFits ps (step7 ps d h)
+-- the note of a good header applies
+pub note-fits : (es ps : List ℕ) (d : TagDecoder) (h : TagHeader) → GoodHeader es ps h → NoteApplies ps (step7 (tableOf es ps) d h)
 note-fits es ps d h g =
-    pick (NoteFits ps) (settles ps d h) (Settle (h .path)) NoNote (λ f. note-settle ps (h .path) (omega (arith, g .few))) (λ f. note-none ps)
+    pick (NoteApplies ps) (settles (tableOf es ps) d h) (Settle (h .path)) NoNote (λ f. note-settle ps (h .path) (omega (arith, g .few))) (λ f. note-none ps)
 
-pub noted-record : (ps : List ℕ) (d : TagDecoder) (n : Note) → GoodRecord d → NoteFits ps n → GoodRecord (noted ps d n)
-unfolding noted NoteFits settledTo withOpen withNotes
+-- and leaves a good record
+pub noted-record : (ps : List ℕ) (d : TagDecoder) (n : Note) → GoodRecord d → NoteApplies ps n → GoodRecord (noted ps d n)
+unfolding noted NoteApplies settledTo withOpen withNotes
 noted-record ps d NoNote g f = g
 noted-record ps d (Settle path) g f = record { few-open = f; few-waiting = g .few-waiting; near = g .near }
 
-pub noted-position : (ps : List ℕ) (d : TagDecoder) (n : Note) → noted ps d n .position ≡ d .position
-unfolding noted settledTo withOpen withNotes
-noted-position ps d NoNote = refl
-noted-position ps d (Settle path) = refl
-
-noted-good : (ps : List ℕ) (d : TagDecoder) (n : Note) → GoodState d → NoteFits ps n → GoodState (noted ps d n)
+noted-good : (ps : List ℕ) (d : TagDecoder) (n : Note) → GoodState d → NoteApplies ps n → GoodState (noted ps d n)
 unfolding noted
 noted-good ps d NoNote g f = g
-noted-good ps d (Settle path) g f = settled-good d g (within (partsOf ps) path) (note-settles ps path f)
+noted-good ps d (Settle path) g f = settled-good d g (partsIn (partsOf ps) path) (note-settles ps path f)
 
 -- ---- one place leaves a good record, one byte on where the search goes on
 
@@ -66,7 +64,8 @@ passed Stop = 0
 passed Found = 0
 passed On = 1
 
-pub record Well (d : TagDecoder) (p : Placed) : Type 0 where
+-- what one place leaves
+pub record Well (d : TagDecoder) (p : PlaceResult) : Type 0 where
   pub good : GoodState (p .state)
   pub moved : p .state .position ≡ d .position + passed (p .place)
 
@@ -88,7 +87,7 @@ module _ (es ps : List ℕ) (shape : goodShape es ps ≡ true) (d : TagDecoder) 
       pick (Well d) (step6 d h) _ _ (λ f. go (validHeader (tableOf es ps) (noted ps d note) h)) (λ f. goes d d g refl n)
     where
       note : Note
-      note = step7 ps d h
+      note = step7 (tableOf es ps) d h
 
       e-good : GoodState (noted ps d note)
       e-good = noted-good ps d note g (note-fits es ps d h good)
@@ -97,6 +96,7 @@ module _ (es ps : List ℕ) (shape : goodShape es ps ≡ true) (d : TagDecoder) 
       go Pass = stays d (noted ps d note) Found refl e-good (noted-position ps d note)
       go (Fail e) = goes d (noted ps d note) e-good (noted-position ps d note) n
 
+  -- so does every place
   pub place-well : (s : List ℕ) → Octets s → Well d (placeAt ps (tableOf es ps) d s)
   unfolding placeAt
   place-well s byte = go (readHeader (tableOf es ps) s) refl
@@ -110,17 +110,19 @@ module _ (es ps : List ℕ) (shape : goodShape es ps ≡ true) (d : TagDecoder) 
 
 module _ (ps : List ℕ) (t : List Entry) where
   -- one place, whose answer is p
-  pub search-stops : (d : TagDecoder) (s : List ℕ) (p : Placed) → 0 < length s → p ≡ placeAt ps t d s → p .place ≡ Stop → p ≡ endOfSearch ps t d s
+  pub search-stops : (d : TagDecoder) (s : List ℕ) (p : PlaceResult) → 0 < length s → p ≡ placeAt ps t d s → p .place ≡ Stop → p ≡ endOfSearch ps t d s
   unfolding endOfSearch
   search-stops d [] p h e q = absurd (omega arith)
   search-stops d (b ∷ s) p h e q = rw (← e, q)
 
-  pub search-finds : (d : TagDecoder) (s : List ℕ) (p : Placed) → 0 < length s → p ≡ placeAt ps t d s → p .place ≡ Found → p ≡ endOfSearch ps t d s
+  -- it has found a header there
+  pub search-finds : (d : TagDecoder) (s : List ℕ) (p : PlaceResult) → 0 < length s → p ≡ placeAt ps t d s → p .place ≡ Found → p ≡ endOfSearch ps t d s
   unfolding endOfSearch
   search-finds d [] p h e q = absurd (omega arith)
   search-finds d (b ∷ s) p h e q = rw (← e, q)
 
-  pub search-goes : (d : TagDecoder) (s : List ℕ) (p : Placed) → 0 < length s → p ≡ placeAt ps t d s → p .place ≡ On
+  -- it goes on at the next
+  pub search-goes : (d : TagDecoder) (s : List ℕ) (p : PlaceResult) → 0 < length s → p ≡ placeAt ps t d s → p .place ≡ On
       → endOfSearch ps t d s ≡ endOfSearch ps t (p .state) (drop 1 s)
   unfolding endOfSearch
   search-goes d [] p h e q = absurd (omega arith)
@@ -132,22 +134,27 @@ pub record Searched (ps : List ℕ) (t : List Entry) (d : TagDecoder) (s : List 
   pub good : GoodState e
   pub moved : e .position ≡ d .position + i
 
+-- at first it has come nowhere
 pub searched-none : (ps : List ℕ) (t : List Entry) (d : TagDecoder) (s : List ℕ) → GoodState d → Searched ps t d s d 0
 searched-none ps t d s g = record { same = refl; good = g; moved = omega arith }
 
 -- the place i answers p
-module _ (es ps : List ℕ) (d : TagDecoder) (s : List ℕ) (e : TagDecoder) (i : ℕ) (so-far : Searched ps (tableOf es ps) d s e i) (p : Placed) where
+module _ (es ps : List ℕ) (d : TagDecoder) (s : List ℕ) (e : TagDecoder) (i : ℕ) (so-far : Searched ps (tableOf es ps) d s e i) (p : PlaceResult) where
+  -- past the last byte the search stops
   pub searched-all : length s ≤ i → at Stop e ≡ endOfSearch ps (tableOf es ps) d s
   unfolding endOfSearch
   searched-all h = sym (so-far .same ∙ ap (endOfSearch ps (tableOf es ps) e) (drop-of-length-le s h))
 
   module _ (h : i < length s) (is : p ≡ placeAt ps (tableOf es ps) e (drop i s)) where
+    -- it ends where it stops
     pub searched-stop : p .place ≡ Stop → p ≡ endOfSearch ps (tableOf es ps) d s
     searched-stop q = search-stops ps (tableOf es ps) e (drop i s) p (omega (arith, length-drop i s)) is q ∙ sym (so-far .same)
 
+    -- or where it has found a header
     pub searched-found : p .place ≡ Found → p ≡ endOfSearch ps (tableOf es ps) d s
     searched-found q = search-finds ps (tableOf es ps) e (drop i s) p (omega (arith, length-drop i s)) is q ∙ sym (so-far .same)
 
+    -- else it has come one place further
     pub searched-on : goodShape es ps ≡ true → Octets s → d .position + length s ≤ 2 ^ 62 → p .place ≡ On → Searched ps (tableOf es ps) d s (p .state) (i + 1)
     searched-on shape byte near q =
         let w : Well e p = subst (Well e) (sym is) (place-well es ps shape e (so-far .good) (omega (arith, so-far .moved)) (drop i s) (octets-drop i s byte)) in
@@ -159,11 +166,12 @@ module _ (es ps : List ℕ) (d : TagDecoder) (s : List ℕ) (e : TagDecoder) (i 
         }
 
 -- where the search of n bytes ends, the record is good, no earlier than it began and no later than the bytes reach
-pub record EndWell (d : TagDecoder) (n : ℕ) (p : Placed) : Type 0 where
+pub record EndWell (d : TagDecoder) (n : ℕ) (p : PlaceResult) : Type 0 where
   pub good : GoodState (p .state)
   pub later : d .position ≤ p .state .position
   pub within : p .state .position ≤ d .position + n
 
+-- so the search ends well
 pub end-well : (es ps : List ℕ) → goodShape es ps ≡ true → (d : TagDecoder) (s : List ℕ) → GoodState d → Octets s → d .position + length s ≤ 2 ^ 62
     → EndWell d (length s) (endOfSearch ps (tableOf es ps) d s)
 unfolding endOfSearch
@@ -172,7 +180,7 @@ end-well es ps shape d (b ∷ s) g byte near =
     go (λ e g near. end-well es ps shape e s g (λ i. byte (suc i)) near) (placeAt ps (tableOf es ps) d (b ∷ s)) (place-well es ps shape d g (omega arith) (b ∷ s) byte)
   where
     go : ((e : TagDecoder) → GoodState e → e .position + length s ≤ 2 ^ 62 → EndWell e (length s) (endOfSearch ps (tableOf es ps) e s))
-        → (p : Placed) → Well d p → EndWell d (suc (length s)) (unlessOn (p .place) (p .state) (λ next. endOfSearch ps (tableOf es ps) next s))
+        → (p : PlaceResult) → Well d p → EndWell d (suc (length s)) (unlessOn (p .place) (p .state) (λ next. endOfSearch ps (tableOf es ps) next s))
     go on p w = by (p .place) refl
       where
         by : (q : Place) → p .place ≡ q → EndWell d (suc (length s)) (unlessOn q (p .state) (λ next. endOfSearch ps (tableOf es ps) next s))
@@ -186,33 +194,3 @@ end-well es ps shape d (b ∷ s) g byte near =
             let m : p .state .position ≡ d .position + 1 = w .moved ∙ ap (λ (x : Place). d .position + passed x) f in
             let r = on (p .state) (w .good) (omega (arith, m)) in
             record { good = r .good; later = omega (arith, m, r .later); within = omega (arith, m, r .within) }
-
--- ---- the search by places is document 01's
-
-scan-ends-at : (ps : List ℕ) (t : List Entry) (d e : TagDecoder) (s : List ℕ) (on : (TagDecoder → Recovered)) (next : (TagDecoder → Placed))
-    → ((x : TagDecoder) → on x ≡ ending (d .position) (next x)) → (p : Placed) → p ≡ readAt ps t e (readHeader t s)
-    → atPlace ps t d e (readHeader t s) on ≡ ending (d .position) (unlessOn (p .place) (p .state) next)
-unfolding atPlace headerAt judgedAt ending grown withOpen
-scan-ends-at ps t d e s on next same p is = rw is (go (readHeader t s))
-  where
-    judged-ends : (c : Check) (f : TagDecoder) → cond (passes c) (found d f) (on (forward f)) ≡ ending (d .position) (unlessOn (judged c f .place) (judged c f .state) next)
-    judged-ends Pass f = refl
-    judged-ends (Fail x) f = same (forward f)
-
-    header-ends : (h : TagHeader) (b : Bool)
-        → cond b (cond (passes (validHeader t (noted ps e (step7 ps e h)) h)) (found d (noted ps e (step7 ps e h))) (on (forward (noted ps e (step7 ps e h))))) (on (forward e))
-        ≡ ending (d .position) (unlessOn (cond b (judged (validHeader t (noted ps e (step7 ps e h)) h) (noted ps e (step7 ps e h))) (stepOn e) .place)
-        (cond b (judged (validHeader t (noted ps e (step7 ps e h)) h) (noted ps e (step7 ps e h))) (stepOn e) .state) next)
-    header-ends h true = judged-ends (validHeader t (noted ps e (step7 ps e h)) h) (noted ps e (step7 ps e h))
-    header-ends h false = same (forward e)
-
-    go : (r : ReadHeader) → atPlace ps t d e r on ≡ ending (d .position) (unlessOn (readAt ps t e r .place) (readAt ps t e r .state) next)
-    go header.NeedMore = refl
-    go (header.Refused x) = same (forward e)
-    go (header.Header h) = header-ends h (step6 e h)
-
-pub scan-ends : (ps : List ℕ) (t : List Entry) (d e : TagDecoder) (s : List ℕ) → scan ps t d e s ≡ ending (d .position) (endOfSearch ps t e s)
-unfolding scan endOfSearch placeAt ending
-scan-ends ps t d e [] = refl
-scan-ends ps t d e (b ∷ s) =
-    scan-ends-at ps t d e (b ∷ s) (λ next. scan ps t d next s) (λ next. endOfSearch ps t next s) (λ next. scan-ends ps t d next s) (readAt ps t e (readHeader t (b ∷ s))) refl

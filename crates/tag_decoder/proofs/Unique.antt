@@ -1,14 +1,14 @@
--- No second answer meets the contract of a public call, as the checker reads it: the answer, the count of bytes taken and every place of the new record
--- are fixed. Assumes nothing.
+-- No second answer meets the contract of a public call, as the checker reads it: the answer, the count of bytes taken
+-- and every place of the new record are fixed. Assumes nothing.
 use Prim.Native.Nat.{ℕ}
 use mathlib.Core.Path.{_≡_}
 use mathlib.Core.Bool.{Bool}
 use borrow.Fn.Kinds.{Dens}
 use contract.Lifetimes.{Lfts}
 use Rattle.tools.proofs.Unique.{same}
-use Rattle.decoder_state.specs.declared.types.Decoded.{Decoded}
-use Rattle.decoder_state.specs.declared.types.Recovered.{Recovered}
-use Rattle.decoder_state.specs.declared.types.TagDecoder.{TagDecoder}
+use Rattle.decoder_rules.specs.declared.types.Decoded.{Decoded}
+use Rattle.decoder_rules.specs.declared.types.Recovered.{Recovered}
+use Rattle.decoder_rules.specs.declared.types.TagDecoder.{TagDecoder}
 use Rattle.tag_decoder.proofs.calls.decode.Reads as decode
 use Rattle.tag_decoder.proofs.calls.decode.Kinds as decode-kinds
 use Rattle.tag_decoder.proofs.calls.decode_eof.Reads as decode-eof

@@ -1,7 +1,8 @@
-// The decoder: one call, the end of input, recovery and the settings. `TagDecoder` of tag_decoder.rs, whose record goes in by value and comes back
-// in the answer.
+// The decoder: one call, the end of input, recovery and the settings. `TagDecoder` of tag_decoder.rs, whose record goes
+// in by value and comes back in the answer.
 
 pub mod calls;
-mod moving;
+mod cut;
+mod end_of_input;
 pub mod recovery;
 pub mod settings;

@@ -1,6 +1,7 @@
--- A call that is lent the record, over any call by value: the walk that `decode`, `decode_eof` and `try_recover` share. The function copies the record
--- out, calls by value, takes the new record out of the answer and stores it, and returns the rest. What differs from one call to the next is bound in
--- front: the answer's type R, the type S of what is returned, the three functions that are called, the call's definition and how its answer comes apart.
+-- A call that is lent the record, over any call by value: the walk that `decode`, `decode_eof` and `try_recover` share.
+-- The function copies the record out, calls by value, takes the new record out of the answer and stores it, and returns
+-- the rest. What differs from one call to the next is bound in front: the answer's type R, the type S of what is
+-- returned, the three functions that are called, the call's definition and how its answer comes apart.
 -- Assumes nothing.
 use mathlib.Core.Path.{_≡_, refl, ap, _∙_}
 use Prim.Native.Nat.{ℕ}
@@ -36,10 +37,10 @@ use denote.Triple.Spec.{Meets, tripleOf}
 use denote.Triple.Walked.{says, Stays, stay-ref, stay-none-slice, walkOf, AllGo, goes-ref, goes-none-slice, Walks, ends-at, walked, walk-meets}
 use denote.Triple.Clauses.{Ended, Clauses, ensured, closing}
 use denote.Exit.{yes}
-use Rattle.decoder_state.specs.declared.types.TagDecoder.{TagDecoder}
-use Rattle.decoder_state.proofs.types.TagDecoder as T
-use Rattle.decoder_state.proofs.types.TagDecoder.Laws as T′
-use Rattle.tag_decoder_lent.specs.Lent.{Leaves}
+use Rattle.decoder_rules.specs.declared.types.TagDecoder.{TagDecoder}
+use Rattle.decoder_rules.proofs.types.TagDecoder as T
+use Rattle.decoder_rules.proofs.types.TagDecoder.Laws as T′
+use Rattle.tag_decoder_lent.specs.Lent.{ReturnsAndLeaves}
 use Rattle.tag_decoder_lent.proofs.LentSteps.{machine, opens-record, calls-saying, told, Parted, calls-part}
 
 -- ---- the four contracts
@@ -81,7 +82,7 @@ module _ {M : Type 1} (𝓤 : URA M) (H : Heap 𝓤) (A : Atoms 𝓤) where
   lent S step κs a = record {
     ghost = Unit {0};
     requires = λ _. emp 𝓤;
-    ensures = λ _ r end. fact 𝓤 (Leaves r (now (end .0)) (step (now (a .1 .0)) (now (a .1 .1 .0)) (now (a .0)) (now (a .1 .1 .1 .0))));
+    ensures = λ _ r end. fact 𝓤 (ReturnsAndLeaves r (now (end .0)) (step (now (a .1 .0)) (now (a .1 .1 .0)) (now (a .0)) (now (a .1 .1 .1 .0))));
   }
 
 -- ---- the code, over the functions that it calls
@@ -160,7 +161,7 @@ module _ (R S : Declared) (RL : LL.Laws R) (RP : Plains (fields R)) (SL : LL.Law
       abbrev Post : Val → SProp 𝓤
       Post = walkOf 𝓤 H A (lending S) stayed (lent 𝓤 H A S step-apart) .post ((κs, (q, (qe, (qp, (qi, tt)))), tt, x, at), tt)
 
-      exits : (t : TagDecoder) (r : S .D) (u : Val) → Leaves r t (step-apart (now es) (now ps) h (now s))
+      exits : (t : TagDecoder) (r : S .D) (u : Val) → ReturnsAndLeaves r t (step-apart (now es) (now ps) h (now s))
           → ent 𝓤 (⋆ 𝓤 H A (‵ (row S .own r (u ∷ [])) ∷ ‵ (fobs γ (T.the-row .coded .code t)) ∷ ‵ (fbor κ (Lent (mem T.the-row) b o γ)) ∷ ‵ (flft κ q) ∷ (‵ (flft κe qe) ⊛ ‵ (flft κp qp) ⊛ ‵ (flft κi qi) ⊛ ‵ ftrue) ∷ ‵ Is′ ∷ ‵ Ps ∷ ‵ Es ∷ [])) (Post u)
       exits t r u e =
           qed W (‵ (row S .own r (u ∷ [])) ∷ ‵ (fobs γ (T.the-row .coded .code t)) ∷ ‵ (fbor κ (Lent (mem T.the-row) b o γ)) ∷ ‵ (flft κ q) ∷ (‵ (flft κe qe) ⊛ ‵ (flft κp qp) ⊛ ‵ (flft κi qi) ⊛ ‵ ftrue) ∷ ‵ Is′ ∷ ‵ Ps ∷ ‵ Es ∷ []) ∵
@@ -189,7 +190,8 @@ module _ (R S : Declared) (RL : LL.Laws R) (RP : Plains (fields R)) (SL : LL.Law
             pass1 ! (init ! 10 refl (shr-slice-lawful 𝓤 H A W (named 1) κe u64 .typed es (ve ∷ []) ie .0)) $ pass1 ! (init ! 8 refl (shr-slice-lawful 𝓤 H A W (named 2) κp u64 .typed ps (vp ∷ []) ip .0)) $
             pass1 ! (init ! 6 refl (shr-slice-lawful 𝓤 H A W (named 3) κi u8 .typed s (vi ∷ []) ii .0)) $ pass0 ! $
             move ! (16 ∷ 17 ∷ 18 ∷ []) $ opens-record ! tt h b o (λ was.
-            -- [the cell; what the record owns; the open borrow; obs; auth; _7; …; _6; …; _5; …; _4; …; _3; …; _2; …; _1; …; _0; …; input; true; parts; entries; the slices' tokens]
+            -- [the cell; what the record owns; the open borrow; obs; auth; _7; …; _6; …; _5; …; _4; …; _3; …; _2; …;
+            -- _1; …; _0; …; input; true; parts; entries; the slices' tokens]
             assigns ! (of-opd ! (load ! (from ! (hop ! (look ! 17 refl) (stop !))) (look-raw ! 0 refl))) (from ! (stop !)) (init ! 9 refl (LL.lawful T.the-type T′.the-laws 𝓤 H A W .typed h _ was .0)) $
             -- each slice is copied: one goes to the call, one is kept
             move ! (24 ∷ 23 ∷ 21 ∷ 1 ∷ 25 ∷ []) $ use1 W (‵ Es ⊛ ‵ Es) (shr-slice-copy 𝓤 H A W (named 1) κe u64 .twice es (ve ∷ [])) $ split ! $
@@ -197,18 +199,21 @@ module _ (R S : Declared) (RL : LL.Laws R) (RP : Plains (fields R)) (SL : LL.Law
             move ! (4 ∷ []) $ use1 W (‵ Is′ ⊛ ‵ Is′) (shr-slice-copy 𝓤 H A W (named 3) κi u8 .twice s (vi ∷ [])) $ split ! $
             nothing ! $ move ! (1 ∷ 0 ∷ []) $ fjoin ! $ move ! (6 ∷ 0 ∷ []) $ fjoin ! $ move ! (2 ∷ 0 ∷ []) $ fjoin ! $ move ! (3 ∷ 0 ∷ []) $ fjoin ! $ move ! (4 ∷ 0 ∷ []) $
             use2 W (raw (Stepped 𝓤 H A R step .pre to-step)) asked $
-            -- [what the call asks; input; parts; entries; the cell; the open borrow; obs; auth; _7; …; _6; …; _5; …; _4; …; _3; …; _2; …; _1; …; _0; …]
+            -- [what the call asks; input; parts; entries; the cell; the open borrow; obs; auth; _7; …; _6; …; _5; …;
+            -- _4; …; _3; …; _2; …; _1; …; _0; …]
             calls-saying ! fm (Stepped 𝓤 H A R step) known to-step (‵ (flft κe qe) ⊛ ‵ (flft κp qp) ⊛ ‵ (flft κi qi) ⊛ ‵ ftrue) (row R)
             (λ r. ensured 𝓤 H A (by-value R) (stepped 𝓤 H A R step) (κe, (κp, (κi, tt))) (es, (ps, (h, (s, tt)))) tt r) (λ r. r ≡ step (now es) (now ps) h (now s)) (λ u. id⊢ 𝓤 _)
             (λ r. told 𝓤 H A (by-value R) (κe, (κp, (κi, tt))) (es, (ps, (h, (s, tt)))) (r ≡ step (now es) (now ps) h (now s)))
             (and-then ! (load ! (from ! (stop !)) (look ! 18 refl)) (and-then ! (load ! (from ! (stop !)) (look ! 16 refl)) (and-then ! (load ! (from ! (stop !)) (look ! 12 refl)) (and-then ! (load ! (from ! (stop !)) (look ! 14 refl)) (no-more !))))) (λ u r e is.
-            -- [the answer; the slices' tokens; input; parts; entries; the cell; the open borrow; obs; auth; _7; …; _6; …; _5; …; _4; …; _3; …; _2; …; _1; …; _0; …]
+            -- [the answer; the slices' tokens; input; parts; entries; the cell; the open borrow; obs; auth; _7; …; _6;
+            -- …; _5; …; _4; …; _3; …; _2; …; _1; …; _0; …]
             land ! (from ! (stop !)) (init ! 11 refl (LL.lawful R RL 𝓤 H A W .typed r _ is .0)) $
             calls-part 𝓤 H A (row R) T.the-row record-of ! fm known-record r u (and-then ! (load ! (from ! (stop !)) (look ! 11 refl)) (no-more !)) (λ u₂ t e₂ is₂.
             land ! (from ! (stop !)) (init ! 9 refl (LL.lawful T.the-type T′.the-laws 𝓤 H A W .typed t _ is₂ .0)) $
             assigns ! (of-opd ! (load ! (from ! (stop !)) (look ! 9 refl))) (from ! (hop ! (look ! 21 refl) (stop !))) (store-raw ! 5 refl (LL.lawful T.the-type T′.the-laws 𝓤 H A W .typed t _ is₂ .0)) $
             move ! (5 ∷ 0 ∷ 6 ∷ 7 ∷ 8 ∷ []) $ closes ! tt T.the-row t (u₂ ∷ []) b o $
-            -- [obs; the borrow; its token; the slices' tokens; input; parts; entries; _7; …; _6; …; _5; …; _4; …; _3; …; _2; …; _1; …; _0; …]
+            -- [obs; the borrow; its token; the slices' tokens; input; parts; entries; _7; …; _6; …; _5; …; _4; …; _3;
+            -- …; _2; …; _1; …; _0; …]
             owned ! (row R) (Is (row R)) ((LL.makes R RP) 𝓤 H A) r _ is $
             calls-part 𝓤 H A (row R) (row S) rest-of ! fm known-rest r u (and-then ! (load ! (from ! (stop !)) (look ! 10 refl)) (no-more !)) (λ u₃ n e₃ is₃.
             land ! (from ! (stop !)) (init ! 22 refl (LL.lawful S SL 𝓤 H A W .typed n _ is₃ .0)) $

@@ -1,5 +1,6 @@
--- The lender's side, for a proof by hand of a function that keeps a record in a local and calls the functions of this crate: the record is lent for a lifetime
--- of the call by `&mut` or by `&`, and is in the local again once the lifetime is over.
+-- The lender's side, for a proof by hand of a function that keeps a record in a local and calls the functions of this
+-- crate: the record is lent for a lifetime of the call by `&mut` or by `&`, and is in the local again once the lifetime
+-- is over.
 -- Assumes nothing.
 use Prim.Native.Nat.{ℕ}
 use mathlib.Core.List.{[], _∷_, List}
@@ -25,10 +26,10 @@ use denote.Struct.Steps.{spelt}
 use denote.Struct.Laws as LL
 use denote.Struct.Declared.{Declared}
 use denote.Triple.Clauses.{ensured, lasts}
-use Rattle.decoder_state.specs.declared.types.TagDecoder.{TagDecoder}
-use Rattle.decoder_state.proofs.types.TagDecoder as T
-use Rattle.decoder_state.proofs.types.TagDecoder.Laws as T′
-use Rattle.tag_decoder_lent.specs.Lent.{Leaves}
+use Rattle.decoder_rules.specs.declared.types.TagDecoder.{TagDecoder}
+use Rattle.decoder_rules.proofs.types.TagDecoder as T
+use Rattle.decoder_rules.proofs.types.TagDecoder.Laws as T′
+use Rattle.tag_decoder_lent.specs.Lent.{ReturnsAndLeaves}
 use Rattle.tag_decoder_lent.proofs.LentCall.{lending, lent}
 use Rattle.tag_decoder_lent.proofs.LentSteps.{machine}
 
@@ -94,11 +95,12 @@ module _ {M : Type 1} {𝓤 : URA M} {H : Heap 𝓤} {A : Atoms 𝓤} {K : Type 
   pub shown-back : K → Soaks G → (α l : ℕ) (h : TagDecoder) → (Is T.the-row h (machine h ∷ []) → Seq K W (‵ (Local l h) ∷ Γ) G) → Seq K W (‵ (flft (α ∷ []) fullShare) ∷ ‵ (ShrKept α l h) ∷ Γ) G
   shown-back t z α l h k = lft-end t z $ lent-back t z $ from-memory t h l k
 
--- what a lent call tells its caller: the last record t under the reference's name, and that r and t are the two parts of the answer by value
+-- what a lent call tells its caller: the last record t under the reference's name, and that r and t are the two parts
+-- of the answer by value
 module _ {M : Type 1} (𝓤 : URA M) (H : Heap 𝓤) (A : Atoms 𝓤) (W : Given 𝓤 H A) (S : Declared) (call : List ℕ → List ℕ → TagDecoder → List ℕ → S .D × TagDecoder) where
   pub told-left : (κs : Lfts 4) (l : ℕ) (γ : GName) (h : TagDecoder) (es ps s : RefT (List ℕ)) (r : S .D)
       → ent 𝓤 (ensured 𝓤 H A (lending S) (lent 𝓤 H A S call) κs (at-local l γ h, (es, (ps, (s, tt)))) tt r)
-      (mean 𝓤 H A (some (λ (t : TagDecoder). ‵ (Last γ t) ⊛ raw (fact 𝓤 (Leaves r t (call (now es) (now ps) h (now s)))))))
+      (mean 𝓤 H A (some (λ (t : TagDecoder). ‵ (Last γ t) ⊛ raw (fact 𝓤 (ReturnsAndLeaves r t (call (now es) (now ps) h (now s)))))))
   told-left κs l γ h es ps s r = exE 𝓤 _ (λ ws.
-      qed W (‵ (lasts (lending S) κs (at-local l γ h, (es, (ps, (s, tt)))) ws) ∷ raw (fact 𝓤 (Leaves r (ws .0) (call (now es) (now ps) h (now s)))) ∷ []) ∵
-      fsplit ! $ show ! (λ (t : TagDecoder). sep 𝓤 (sem 𝓤 H A (Last γ t)) (fact 𝓤 (Leaves r t (call (now es) (now ps) h (now s))))) (ws .0) $ frame ! $ keep ! (1 ∷ []) $ done !)
+      qed W (‵ (lasts (lending S) κs (at-local l γ h, (es, (ps, (s, tt)))) ws) ∷ raw (fact 𝓤 (ReturnsAndLeaves r (ws .0) (call (now es) (now ps) h (now s)))) ∷ []) ∵
+      fsplit ! $ show ! (λ (t : TagDecoder). sep 𝓤 (sem 𝓤 H A (Last γ t)) (fact 𝓤 (ReturnsAndLeaves r t (call (now es) (now ps) h (now s))))) (ws .0) $ frame ! $ keep ! (1 ∷ []) $ done !)

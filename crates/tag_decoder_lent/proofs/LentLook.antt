@@ -1,6 +1,6 @@
--- A question that is lent the record by `&`, over any question by value: the walk that `position` and `is_finished` share. The function copies the record
--- out and asks by value. What differs is bound in front: the answer's type X, whose machine values are of the MIR type τ, the function that is asked, and
--- what it tells.
+-- A question that is lent the record by `&`, over any question by value: the walk that `position` and `is_finished`
+-- share. The function copies the record out and asks by value. What differs is bound in front: the answer's type X,
+-- whose machine values are of the MIR type τ, the function that is asked, and what it tells.
 -- Assumes nothing.
 use mathlib.Core.Path.{_≡_, refl}
 use Prim.Native.Nat.{ℕ}
@@ -32,9 +32,9 @@ use denote.Triple.Spec.{Meets}
 use denote.Triple.Walked.{says, Stays, stay-none-ref, walkOf, AllGo, goes-none-ref, Walks, ends-at, walked, walk-meets}
 use denote.Triple.Clauses.{Ended, Clauses, closing}
 use denote.Exit.{yes}
-use Rattle.decoder_state.specs.declared.types.TagDecoder.{TagDecoder}
-use Rattle.decoder_state.proofs.types.TagDecoder as T
-use Rattle.decoder_state.proofs.types.TagDecoder.Laws as T′
+use Rattle.decoder_rules.specs.declared.types.TagDecoder.{TagDecoder}
+use Rattle.decoder_rules.proofs.types.TagDecoder as T
+use Rattle.decoder_rules.proofs.types.TagDecoder.Laws as T′
 use Rattle.tag_decoder_lent.proofs.LentSteps.{machine, Parted, calls-part}
 
 abbrev pub looking : RattleType → Ended
@@ -88,7 +88,8 @@ module _ (X : RattleType) (τ : Ty) (typed : (x : X .Denot) (v : Val) → Is X x
             looks ! tt T.the-row (Is T.the-row) (shows 𝓤 H A T.the-row) (LL.vals T.the-type T′.the-laws) (LL.tells T.the-type T′.the-laws) ((LL.copy T.the-type T′.the-copy) 𝓤 H A W) h b o (λ q′ vs.
             spelt ! T.the-row (Is T.the-row) (shows 𝓤 H A T.the-row) (LL.vals T.the-type T′.the-laws) (LL.tells T.the-type T′.the-laws) q′ h vs b o $
             move ! (1 ∷ []) $ peeks ! T.the-row (Is T.the-row) (shows 𝓤 H A T.the-row) h (machine h ∷ []) (λ was. move ! (1 ∷ 0 ∷ []) $
-            -- [a share of the cell; what the record owns; what shuts it; the fractured borrow; true; res; true; _2; …; _1; …; _0; …]
+            -- [a share of the cell; what the record owns; what shuts it; the fractured borrow; true; res; true; _2; …;
+            -- _1; …; _0; …]
             assigns ! (of-opd ! (load ! (from ! (hop ! (look ! 9 refl) (stop !))) (look-raw ! 0 refl))) (from ! (stop !)) (init ! 7 refl (LL.lawful T.the-type T′.the-laws 𝓤 H A W .typed h _ was .0)) $
             shuts ! tt T.the-row q′ h (machine h ∷ []) b o $
             -- [the token; the fractured borrow; true; res; true; _2; …; _1; …; _0; …]

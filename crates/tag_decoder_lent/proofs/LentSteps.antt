@@ -1,4 +1,5 @@
--- The steps that the walks over a lent record share: the lent record is opened, a covered function is called, and a part of a value is asked for.
+-- The steps that the walks over a lent record share: the lent record is opened, a covered function is called, and a
+-- part of a value is asked for.
 -- Assumes nothing.
 use mathlib.Core.Path.{_≡_}
 use Prim.Native.Nat.{ℕ}
@@ -30,9 +31,9 @@ use denote.Triple.Entry.{Args}
 use denote.Triple.Spec.{tripleOf, exits}
 use denote.Triple.Clauses.{Ended, Clauses, ensured, closing, lasts}
 use denote.Exit.{yes}
-use Rattle.decoder_state.specs.declared.types.TagDecoder.{TagDecoder}
-use Rattle.decoder_state.proofs.types.TagDecoder as T
-use Rattle.decoder_state.proofs.types.TagDecoder.Laws as T′
+use Rattle.decoder_rules.specs.declared.types.TagDecoder.{TagDecoder}
+use Rattle.decoder_rules.proofs.types.TagDecoder as T
+use Rattle.decoder_rules.proofs.types.TagDecoder.Laws as T′
 
 -- the machine's value of a record
 abbrev pub machine : TagDecoder → Val
@@ -47,7 +48,8 @@ module _ {M : Type 1} {𝓤 : URA M} {H : Heap 𝓤} {A : Atoms 𝓤} {K : Type 
       opens t z T.the-row {h = h} b o (λ vs. spelt t T.the-row (Is T.the-row) (shows 𝓤 H A T.the-row) (LL.vals T.the-type T′.the-laws) (LL.tells T.the-type T′.the-laws) fullShare h vs b o $
       move t (1 ∷ []) $ peeks t T.the-row (Is T.the-row) (shows 𝓤 H A T.the-row) h (machine h ∷ []) (λ was. move t (1 ∷ 0 ∷ []) $ k was))
 
-  -- a call whose contract says a fact of its result: Tk are the tokens that come back, Φ r is what is ensured of the result r, φ r the fact
+  -- a call whose contract says a fact of its result: Tk are the tokens that come back, Φ r is what is ensured of the
+  -- result r, φ r the fact
   pub calls-saying : {E : Env 𝓤 H} {C : Calls 𝓤 H} {Λ : Loops 𝓤 H} {f : Name} {xs : List Operand} {d : Place} {rest : Body} {q : Post 𝓤 H} → K → FmC 𝓤 H (W .laws) C
       → (c : Contract 𝓤) → Triple 𝓤 (C f) c → (y : c .Ghost) (Tk : Item 𝓤) (S : RattleType) (Φ : S .Denot → SProp 𝓤) (φ : S .Denot → Type 0)
       → ((u : Val) → ent 𝓤 (c .post y u) (mean 𝓤 H A (later (some (λ (r : S .Denot). (Tk ⊛ ‵ (S .own r (u ∷ []))) ⊛ raw (Φ r))))))

@@ -1,41 +1,44 @@
 // An answer by value, taken apart.
 
 ghost use mathlib.Core.Path.{_≡_};
-ghost use Rattle.tag_decoder_lent.specs.Lent.{said, searched};
-use crate::types::Said;
-use crate::types::Searched;
-use decoder_state::types::Decoded;
-use decoder_state::types::Recovered;
-use decoder_state::types::TagDecoder;
+ghost use Rattle.tag_decoder_lent.specs.Lent.{replyOf, recoveryReplyOf};
+use crate::types::RecoveryReply;
+use crate::types::Reply;
+use decoder_rules::types::Decoded;
+use decoder_rules::types::Recovered;
+use decoder_rules::types::TagDecoder;
 
+// The record of an answer.
 pub fn record_of(a: Decoded) -> TagDecoder
     ensures { λ r. ⌜ r ≡ a .state ⌝ }
 {
     a.state
 }
 
-pub fn said_of(a: Decoded) -> Said
-    ensures { λ r. ⌜ r ≡ said a ⌝ }
+// The answer without its record.
+pub fn reply_of(a: Decoded) -> Reply
+    ensures { λ r. ⌜ r ≡ replyOf a ⌝ }
 {
     let answer = a.answer;
-    Said {
+    Reply {
         answer,
         taken: a.taken,
     }
 }
 
-// The same two of a recovery.
-pub fn recovered_of(b: Recovered) -> TagDecoder
+// The record of a recovery's answer.
+pub fn recovered_record_of(b: Recovered) -> TagDecoder
     ensures { λ r. ⌜ r ≡ b .state ⌝ }
 {
     b.state
 }
 
-pub fn searched_of(b: Recovered) -> Searched
-    ensures { λ r. ⌜ r ≡ searched b ⌝ }
+// A recovery's answer without its record.
+pub fn recovery_reply_of(b: Recovered) -> RecoveryReply
+    ensures { λ r. ⌜ r ≡ recoveryReplyOf b ⌝ }
 {
     let answer = b.answer;
-    Searched {
+    RecoveryReply {
         answer,
         taken: b.taken,
     }

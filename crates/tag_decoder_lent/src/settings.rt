@@ -1,11 +1,11 @@
 // `allow_errors`, `set_max_allowable_tag_size`, `position` and `is_finished` of a lent record.
 
 ghost use mathlib.Core.Path.{_≡_};
-ghost use Rattle.tag_decoder.specs.Settings.{allowing, limitedTo, isFinished};
-use decoder_state::types::Given;
-use decoder_state::types::TagDecoder;
+ghost use Rattle.decoder_rules.specs.Settings.{allowing, limitedTo, isFinished};
+use decoder_rules::types::Optional;
+use decoder_rules::types::TagDecoder;
 
-// Exactly these tests are switched off.
+// From now on exactly these tests are switched off.
 pub fn allow_errors(d: &mut TagDecoder, ids: bool, hierarchy: bool, oversized: bool)
     ensures { λ _. ⌜ now (d .exit) ≡ allowing (now (d .entry)) ids hierarchy oversized ⌝ }
 {
@@ -14,7 +14,8 @@ pub fn allow_errors(d: &mut TagDecoder, ids: bool, hierarchy: bool, oversized: b
     *d = allowed;
 }
 
-pub fn set_max_allowable_tag_size(d: &mut TagDecoder, size: Given)
+// From now on a size is at most this one, or any where it is `Nothing`.
+pub fn set_max_allowable_tag_size(d: &mut TagDecoder, size: Optional)
     ensures { λ _. ⌜ now (d .exit) ≡ limitedTo (now (d .entry)) size ⌝ }
 {
     let record = *d;
@@ -22,6 +23,7 @@ pub fn set_max_allowable_tag_size(d: &mut TagDecoder, size: Given)
     *d = limited;
 }
 
+// The position: how many bytes were taken.
 pub fn position(d: &TagDecoder) -> u64
     ensures { λ r. ⌜ r ≡ now (d .entry) .position ⌝ }
 {
@@ -29,6 +31,7 @@ pub fn position(d: &TagDecoder) -> u64
     tag_decoder::settings::position(record)
 }
 
+// Whether the decoder is finished, and every End was handed out.
 pub fn is_finished(d: &TagDecoder) -> bool
     ensures { λ r. ⌜ r ≡ isFinished (now (d .entry)) ⌝ }
 {

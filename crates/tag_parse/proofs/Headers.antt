@@ -1,8 +1,9 @@
--- What `readHeader` accepts: an ID with its marker, of the shape of an RFC 8794 VINT (or the one byte 0), and right after it a size VINT; the
--- octets taken are exactly those. And that an answer other than need-more stays when bytes are appended. Assumes nothing.
+-- What `readHeader` accepts: an ID with its marker, of the shape of an RFC 8794 VINT (or the one byte 0), and right
+-- after it a size VINT; the octets taken are exactly those. And that an answer that asks for no more stays when bytes
+-- are appended. Assumes nothing.
 use Prim.Native.Nat.{ℕ, zero, suc, _+_, _-_, _*_, _^_, _≤_, _<_}
 use mathlib.Core.Path.{_≡_, refl, sym, ap, _∙_, subst}
-use mathlib.Core.Bool.{Bool, true, false, cond}
+use mathlib.Core.Bool.{Bool, true, false, true≢false, cond}
 use mathlib.Core.List.{List, [], _∷_, _++_}
 use mathlib.Core.Logic.{_⊎_, inl, inr}
 use native.Mathlib.Omega.{arith}
@@ -12,14 +13,14 @@ use lib.Pow.{pow-mono}
 use lib.ListN.{length, getD, take, drop, length-append, length-drop, List·getD-append}
 use lib.Seq.{take-append-le, drop-append-le, length-take-le, getD-take}
 use Rattle.tools.specs.Bytes.{Octets, beNumber}
-use Rattle.tools.specs.Vint.{IsVint, allOnes, vintLength, vintValue, readVint}
+use Rattle.tools.specs.Vint.{IsVint, Front, vintLimit, allOnes, vintLength, vintValue, readVint, vintNeedsMore}
 use Rattle.tools.specs.declared.vint.ReadVint.{ReadVint}
 use Rattle.tools.specs.declared.vint.ReadVint.the-variants as vint
 use Rattle.tools.proofs.Cases.{read-whole}
-use Rattle.tools.proofs.Rfc8794.{Front, read-sound, read-local}
+use Rattle.tools.proofs.Rfc8794.{read-sound, read-local}
 use Rattle.table.specs.Table.{Entry, specFor, dataTypeOf, rangeOf}
 use Rattle.table.specs.declared.types.Spec.{Spec}
-use Rattle.tag_parse.specs.Header.{idLength, readTagId, sizeOf, tooLong, headerOf, sizedBy, sized, afterId, readHeader}
+use Rattle.tag_parse.specs.Header.{idLength, readTagId, sizeOf, tooLong, headerOf, sizedBy, sized, afterId, readHeader, headerNeedsMore, IsId, IsHeader, OfTable}
 use Rattle.tag_parse.specs.declared.types.ReadTagId.{ReadTagId}
 use Rattle.tag_parse.specs.declared.types.ReadTagId.the-variants as id
 use Rattle.tag_parse.specs.declared.types.EBMLSize.the-variants as size
@@ -30,12 +31,7 @@ use Rattle.tag_parse.proofs.Cases.{IdFront, id-zero, id-vint, id-front,
 
 -- ---- IDs
 
--- the n octets of an ID: the one byte 0, or those of a VINT, whose number with its marker they are
-pub record IsId (x n : ℕ) (octets : List ℕ) : Type 0 where
-  pub number : beNumber octets ≡ x
-  pub count : length octets ≡ n
-  pub shape : (getD octets 0 0 ≡ 0) ⊎ ((v : ℕ) × IsVint n v octets)
-
+-- an ID that is read stands at the front
 pub id-sound : (s : List ℕ) (x n : ℕ) → Octets s → readTagId s ≡ id.TagId x n → IsId x n (take n s)
 id-sound s x n byte e = go (decLe 1 (getD s 0 0)) (id-front s (byte 0) e)
   where
@@ -71,7 +67,7 @@ id-sound s x n byte e = go (decLe 1 (getD s 0 0)) (id-front s (byte 0) e)
         let z : getD s 0 0 ≡ 0 = omega arith in
         record { number = parts f .1; count = length-take-le n s (f .whole); shape = inl (first f ∙ z) }
 
--- an answer other than need-more stays
+-- an ID that is read stays when bytes are appended
 pub id-local : (s t : List ℕ) {x n : ℕ} → getD s 0 0 < 256 → readTagId s ≡ id.TagId x n → readTagId (s ++ t) ≡ id.TagId x n
 id-local s t {x} {n} byte e = go (id-front s byte e) (decLe (idLength (getD s 0 0)) (length s))
   where
@@ -90,19 +86,6 @@ id-local s t {x} {n} byte e = go (id-front s byte e) (decLe (idLength (getD s 0 
 
 -- ---- headers
 
--- an ID of n octets, and right after it a size VINT of L octets with the value v: the header's octets are these n + L
-pub record IsHeader (h : TagHeader) (s : List ℕ) : Type 0 where
-  pub n : ℕ
-  pub L : ℕ
-  pub v : ℕ
-  pub identifier : IsId (h .id) n (take n s)
-  pub at-most-8 : n ≤ 8
-  pub vint : Front L v (drop n s)
-  pub whole : h .len ≤ length s
-  pub taken : h .len ≡ n + L
-  pub size : h .size ≡ sizeOf v L
-  pub fits : tooLong (h .kind) v ≡ false
-
 -- the header that a size of v in L octets makes, where it is not too long for its type
 made : (x n v L : ℕ) (spec : Spec) (h : TagHeader) → sizedBy x spec n v L ≡ header.Header h → (headerOf x spec n v L ≡ h) × (tooLong (spec .kind) v ≡ false)
 unfolding sizedBy
@@ -115,6 +98,7 @@ made x n v L spec h e = go (tooLong (spec .kind) v) refl
         absurd (omega arith)
     go false f = let e' = rw f at e in let g : headerOf x spec n v L ≡ h = cc in (g, f)
 
+-- a header that is read stands at the front
 pub header-sound : (t : List Entry) (s : List ℕ) (h : TagHeader) → Octets s → readHeader t s ≡ header.Header h → IsHeader h s
 unfolding readHeader afterId sized
 header-sound t s h byte e = at-id (readTagId s) refl e
@@ -148,24 +132,20 @@ pub header-short : {h : TagHeader} {s : List ℕ} → IsHeader h s → h .len �
 header-short i = omega (arith, i .taken, i .at-most-8, i .vint .vint .at-most-8)
 
 -- and a known size has at most 56 bits
-pub known-small : {h : TagHeader} {s : List ℕ} (m : ℕ) → IsHeader h s → h .size ≡ size.Known m → m < 2 ^ 56
+pub known-small : {h : TagHeader} {s : List ℕ} (m : ℕ) → IsHeader h s → h .size ≡ size.Known m → m < vintLimit
 unfolding sizeOf
 known-small {h} {s} m i e = go (allOnes (i .L) (i .v)) (sym (i .size) ∙ e)
   where
-    small : i .v < 2 ^ 56
+    small : i .v < vintLimit
     small =
         let k : 7 * i .L ≤ 56 = omega (arith, i .vint .vint .at-most-8) in
         lt-of-lt-of-le (i .vint .vint .below) (pow-mono k)
 
-    go : (b : Bool) → cond b size.Unknown (size.Known (i .v)) ≡ size.Known m → m < 2 ^ 56
+    go : (b : Bool) → cond b size.Unknown (size.Known (i .v)) ≡ size.Known m → m < vintLimit
     go true f = let z : _≡_ {A = ℕ} 0 1 = cc in absurd (omega arith)
-    go false f = let v : i .v ≡ m = cc in subst (λ (x : ℕ). x < 2 ^ 56) v small
+    go false f = let v : i .v ≡ m = cc in subst (λ (x : ℕ). x < vintLimit) v small
 
 -- its type and its path are those of its ID
-pub record OfTable (t : List Entry) (h : TagHeader) : Type 0 where
-  pub kind : h .kind ≡ dataTypeOf t (h .id)
-  pub path : h .path ≡ rangeOf t (h .id)
-
 pub header-spec : (t : List Entry) (s : List ℕ) (h : TagHeader) → readHeader t s ≡ header.Header h → OfTable t h
 unfolding readHeader afterId sized
 header-spec t s h e = at-id (readTagId s) e
@@ -179,19 +159,19 @@ header-spec t s h e = at-id (readTagId s) e
     at-id id.NeedMore e = let z : _≡_ {A = ℕ} 0 1 = cc in absurd (omega arith)
     at-id (id.TagId x n) e = at-size x n (readVint (drop n s)) e
 
--- an answer other than need-more stays when bytes are appended
-pub header-local : (t : List Entry) (s u : List ℕ) → getD s 0 0 < 256 → (readHeader t s ≡ header.NeedMore → ⊥) → readHeader t (s ++ u) ≡ readHeader t s
+-- an answer that asks for no more stays when bytes are appended
+pub header-local : (t : List Entry) (s u : List ℕ) → getD s 0 0 < 256 → headerNeedsMore (readHeader t s) ≡ false → readHeader t (s ++ u) ≡ readHeader t s
 unfolding readHeader afterId sized
 header-local t s u byte some = at-id (readTagId s) refl
   where
-    same : (x n : ℕ) → readTagId s ≡ id.TagId x n → (readVint (drop n s) ≡ vint.NeedMore → ⊥) → readHeader t (s ++ u) ≡ readHeader t s
+    same : (x n : ℕ) → readTagId s ≡ id.TagId x n → vintNeedsMore (readVint (drop n s)) ≡ false → readHeader t (s ++ u) ≡ readHeader t s
     same x n f k = rw (id-local s u byte f, f, drop-append-le n s u (id-front s byte f .whole), read-local (drop n s) u k)
 
     at-size : (x n : ℕ) → readTagId s ≡ id.TagId x n → (r : ReadVint) → readVint (drop n s) ≡ r → readHeader t (s ++ u) ≡ readHeader t s
-    at-size x n f vint.NeedMore g = absurd (some (rw (f, g)))
-    at-size x n f (vint.Refused o) g = same x n f (λ z. let y : _≡_ {A = ℕ} 0 1 = cc in omega arith)
-    at-size x n f (vint.Vint v L) g = same x n f (λ z. let y : _≡_ {A = ℕ} 0 1 = cc in omega arith)
+    at-size x n f vint.NeedMore g = absurd (true≢false (rw (f, g) at some))
+    at-size x n f (vint.Refused o) g = same x n f (rw g)
+    at-size x n f (vint.Vint v L) g = same x n f (rw g)
 
     at-id : (r : ReadTagId) → readTagId s ≡ r → readHeader t (s ++ u) ≡ readHeader t s
-    at-id id.NeedMore f = absurd (some (rw f))
+    at-id id.NeedMore f = absurd (true≢false (rw f at some))
     at-id (id.TagId x n) f = at-size x n f (readVint (drop n s)) refl

@@ -1,3 +1,4 @@
 pub mod Cases
 pub mod Headers
 pub mod Unique
+pub mod Computing

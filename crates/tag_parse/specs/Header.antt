@@ -1,14 +1,16 @@
 -- Document 01, "One call of the decoder", step 5: the header of an element.
-use Prim.Native.Nat.{ℕ, _+_}
+use Prim.Native.Nat.{ℕ, _+_, _≤_}
 use mathlib.Core.Bool.{Bool, true, false, cond, _&&_}
 use mathlib.Core.List.{List}
+use mathlib.Core.Logic.{_⊎_}
+use mathlib.Core.Path.{_≡_}
 use lib.Dec.{ltb, eqb}
 use lib.ListN.{length, getD, take, drop}
 use Rattle.tools.specs.Bytes.{beNumber}
-use Rattle.tools.specs.Vint.{vintLength, allOnes, readVint}
+use Rattle.tools.specs.Vint.{IsVint, Front, vintLength, allOnes, readVint}
 use Rattle.tools.specs.declared.vint.ReadVint.{ReadVint}
 use Rattle.tools.specs.declared.vint.ReadVint.the-variants as vint
-use Rattle.table.specs.Table.{Entry, specFor}
+use Rattle.table.specs.Table.{Entry, specFor, dataTypeOf, rangeOf}
 use Rattle.table.specs.declared.types.Spec.{Spec}
 use Rattle.table.specs.declared.types.TagDataType.{TagDataType}
 use Rattle.table.specs.declared.types.TagDataType.the-variants as type
@@ -31,12 +33,18 @@ idLength first = cond (eqb first 0) 1 (vintLength first)
 abbrev pub idAt : ℕ → List ℕ → ReadTagId
 idAt L s = cond (ltb (length s) L) id.NeedMore (id.TagId (beNumber (take L s)) L)
 
+-- the ID at the front of s
 unfoldable pub readTagId : List ℕ → ReadTagId
 readTagId s = cond (eqb (length s) 0) id.NeedMore (idAt (idLength (getD s 0 0)) s)
 
+-- the answer asks for more bytes
+abbrev pub idNeedsMore : ReadTagId → Bool
+idNeedsMore id.NeedMore = true
+idNeedsMore (id.TagId x n) = false
+
 -- ---- the size
 
--- "a size is Unknown when its L-byte vint has the value 2^(7L)-1"
+-- "a size is Unknown when its L-byte vint has the value 2^(7L)−1"
 unfoldable pub sizeOf : ℕ → ℕ → EBMLSize
 sizeOf v L = cond (allOnes L v) size.Unknown (size.Known v)
 
@@ -56,6 +64,7 @@ tooLong kind v = ltb 8 v && numeric kind
 
 -- ---- the header
 
+-- the header of an ID of n bytes, with what the table says of it, and of a size vint of L bytes
 abbrev pub headerOf : ℕ → Spec → ℕ → ℕ → ℕ → TagHeader
 headerOf x spec n v L = record { id = x; kind = spec .kind; path = spec .path; size = sizeOf v L; len = n + L }
 
@@ -63,7 +72,7 @@ headerOf x spec n v L = record { id = x; kind = spec .kind; path = spec .path; s
 unfoldable pub sizedBy : ℕ → Spec → ℕ → ℕ → ℕ → ReadHeader
 sizedBy x spec n v L = cond (tooLong (spec .kind) v) (header.Refused InvalidTagData) (header.Header (headerOf x spec n v L))
 
--- "then size vint. Size byte 0, or .. : 14"
+-- what the size vint makes of it: "Size byte 0" is refusal 14
 unfoldable pub sized : ℕ → Spec → ℕ → ReadVint → ReadHeader
 sized x spec n vint.NeedMore = header.NeedMore
 sized x spec n (vint.Refused e) = header.Refused InvalidTagData
@@ -74,5 +83,38 @@ unfoldable pub afterId : List Entry → List ℕ → ReadTagId → ReadHeader
 afterId t s id.NeedMore = header.NeedMore
 afterId t s (id.TagId x n) = sized x (specFor t x) n (readVint (drop n s))
 
+-- the header at the front of s
 unfoldable pub readHeader : List Entry → List ℕ → ReadHeader
 readHeader t s = afterId t s (readTagId s)
+
+-- the answer asks for more bytes
+abbrev pub headerNeedsMore : ReadHeader → Bool
+headerNeedsMore header.NeedMore = true
+headerNeedsMore (header.Refused e) = false
+headerNeedsMore (header.Header h) = false
+
+-- ---- what is accepted, as relations on octets
+
+-- the n octets of an ID: the one byte 0, or those of a VINT, whose number with its marker they are
+pub record IsId (x n : ℕ) (octets : List ℕ) : Type 0 where
+  pub number : beNumber octets ≡ x
+  pub count : length octets ≡ n
+  pub shape : (getD octets 0 0 ≡ 0) ⊎ ((v : ℕ) × IsVint n v octets)
+
+-- an ID of n octets, and right after it a size VINT of L octets with the value v: the header's octets are these n + L
+pub record IsHeader (h : TagHeader) (s : List ℕ) : Type 0 where
+  pub n : ℕ
+  pub L : ℕ
+  pub v : ℕ
+  pub identifier : IsId (h .id) n (take n s)
+  pub at-most-8 : n ≤ 8
+  pub vint : Front L v (drop n s)
+  pub whole : h .len ≤ length s
+  pub taken : h .len ≡ n + L
+  pub size : h .size ≡ sizeOf v L
+  pub fits : tooLong (h .kind) v ≡ false
+
+-- its type and its path are those of its ID
+pub record OfTable (t : List Entry) (h : TagHeader) : Type 0 where
+  pub kind : h .kind ≡ dataTypeOf t (h .id)
+  pub path : h .path ≡ rangeOf t (h .id)

@@ -1,4 +1,5 @@
--- Document 01, "One call of the decoder", step 11: "then 22, 20, 21; else Data. An empty number is 0, an empty float 0.0."
+-- Document 01, "One call of the decoder", step 11: "then 22, 20, 21; else Data. An empty number is 0, an empty float
+-- 0.0."
 use Prim.Native.Nat.{ℕ}
 use mathlib.Core.Bool.{cond}
 use mathlib.Core.List.{List}
@@ -26,13 +27,16 @@ abbrev pub unsignedOr22 : ArrToU64 → ReadData
 unsignedOr22 (unsigned.Value v) = Value (UnsignedInt v)
 unsignedOr22 (unsigned.Refused e) = Refused ReadIntegerOverflow
 
+-- the value of an unsigned number's payload
 abbrev pub unsignedValue : List ℕ → ReadData
 unsignedValue s = unsignedOr22 (arrToU64 s)
 
+-- the same of a signed number
 abbrev pub integerOr22 : ArrToI64 → ReadData
 integerOr22 (signed.Value v) = Value (Integer v)
 integerOr22 (signed.Refused e) = Refused ReadIntegerOverflow
 
+-- the value of a signed number's payload
 abbrev pub integerValue : List ℕ → ReadData
 integerValue s = integerOr22 (arrToI64 s)
 
@@ -45,6 +49,7 @@ abbrev pub floatOr21 : ArrToF64 → ReadData
 floatOr21 (float.Bits b) = Value (Float b)
 floatOr21 (float.Refused e) = Refused ReadF64Mismatch
 
+-- the value of a float's payload; an empty one is 0.0
 abbrev pub floatValue : List ℕ → ReadData
 floatValue s = cond (eqb (length s) 0) (Value (Float 0)) (floatOr21 (arrToF64 s))
 

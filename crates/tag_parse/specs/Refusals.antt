@@ -3,6 +3,7 @@ use Prim.Native.Nat.{ℕ}
 use Rattle.tag_parse.specs.declared.types.ParseError.{ParseError}
 use Rattle.tag_parse.specs.declared.types.ParseError.the-variants.{InvalidTagData, FromUtf8Error, ReadF64Mismatch, ReadIntegerOverflow}
 
+-- 14, and 20 to 22
 abbrev pub parseNumber : ParseError → ℕ
 parseNumber InvalidTagData = 14
 parseNumber FromUtf8Error = 20

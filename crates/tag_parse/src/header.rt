@@ -27,6 +27,7 @@ fn id_length(first: u8) -> usize
     u8::leading_zeros(first) as usize + 1
 }
 
+// The ID at the front of the bytes, its marker kept.
 pub fn read_tag_id(input: &[u8]) -> ReadTagId
     ensures { λ r. ⌜ r ≡ readTagId (now (input .entry)) ⌝ }
 {
@@ -44,6 +45,7 @@ pub fn read_tag_id(input: &[u8]) -> ReadTagId
     }
 }
 
+// Whether payloads of a type are numbers.
 fn is_numeric(kind: TagDataType) -> bool
     ensures { λ r. ⌜ r ≡ numeric kind ⌝ }
 {
@@ -58,6 +60,7 @@ fn is_numeric(kind: TagDataType) -> bool
     }
 }
 
+// Whether a size is over what a number's payload can have.
 fn is_too_long(kind: TagDataType, size: u64) -> bool
     ensures { λ r. ⌜ r ≡ tooLong kind size ⌝ }
 {
@@ -100,6 +103,7 @@ fn with_size(id: u64, spec: Spec, id_len: usize, size: u64, size_len: usize) -> 
     })
 }
 
+// The header at the front of the bytes: the ID, what the table says of it, and the size.
 pub fn read_header(entries: &[u64], parts: &[u64], input: &[u8]) -> ReadHeader
     ensures { λ r. ⌜ r ≡ readHeader (tableOf (now (entries .entry)) (now (parts .entry))) (now (input .entry)) ⌝ }
 {

@@ -15,6 +15,7 @@ use tools::integer::arr_to_i64;
 use tools::integer::arr_to_u64;
 use utf8::is_utf8;
 
+// The value of an unsigned number.
 fn unsigned_value(raw_data: &[u8]) -> ReadData
     ensures { λ r. ⌜ r ≡ unsignedValue (now («raw_data» .entry)) ⌝ }
 {
@@ -24,6 +25,7 @@ fn unsigned_value(raw_data: &[u8]) -> ReadData
     }
 }
 
+// The value of a signed number.
 fn integer_value(raw_data: &[u8]) -> ReadData
     ensures { λ r. ⌜ r ≡ integerValue (now («raw_data» .entry)) ⌝ }
 {
@@ -33,6 +35,7 @@ fn integer_value(raw_data: &[u8]) -> ReadData
     }
 }
 
+// A text, by where it lies, if it is UTF-8.
 fn text_value(raw_data: &[u8], range: Range) -> ReadData
     ensures { λ r. ⌜ r ≡ textValue (now («raw_data» .entry)) range ⌝ }
 {
@@ -42,6 +45,7 @@ fn text_value(raw_data: &[u8], range: Range) -> ReadData
     ReadData::Refused(ParseError::FromUtf8Error)
 }
 
+// The value of a float.
 fn float_value(raw_data: &[u8]) -> ReadData
     ensures { λ r. ⌜ r ≡ floatValue (now («raw_data» .entry)) ⌝ }
 {
@@ -54,7 +58,7 @@ fn float_value(raw_data: &[u8]) -> ReadData
     }
 }
 
-// The range is where the payload lies in the stream.
+// The value of a payload of a type; the range is where the payload lies in the stream.
 pub fn read_data_tag(kind: TagDataType, raw_data: &[u8], range: Range) -> ReadData
     ensures { λ r. ⌜ r ≡ readData kind (now («raw_data» .entry)) range ⌝ }
 {

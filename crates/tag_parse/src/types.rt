@@ -25,17 +25,19 @@ pub fn parse_number(e: ParseError) -> u64
     }
 }
 
+// What stands at the front of some bytes, read as an ID.
 pub enum ReadTagId {
     NeedMore,
     TagId { id: u64, length: usize },
 }
 
+// The size that a header says.
 pub enum EBMLSize {
     Known(u64),
     Unknown,
 }
 
-// The path comes with the type, so that one look-up serves the whole call.
+// An element's header. The path comes with the type, so that one look-up serves the whole call.
 pub struct TagHeader {
     pub id: u64,
     pub kind: TagDataType,
@@ -44,6 +46,7 @@ pub struct TagHeader {
     pub len: usize,
 }
 
+// What stands at the front of some bytes, read as a header.
 pub enum ReadHeader {
     NeedMore,
     Refused(ParseError),
@@ -66,6 +69,7 @@ pub enum TagValue {
     Raw(Range),
 }
 
+// A payload's value, or why not.
 pub enum ReadData {
     Value(TagValue),
     Refused(ParseError),

@@ -1,13 +1,15 @@
 -- The cases of the number routines' definitions: one law for each answer. Assumes nothing.
 use Prim.Native.Nat.{ℕ, zero, suc, _+_, _-_, _*_, _^_, _≤_, _<_}
 use mathlib.Core.Path.{_≡_, refl, sym, ap, _∙_}
+use mathlib.Core.Bool.{true}
 use mathlib.Core.List.{List, _++_}
 use borrow.Author.Tests.{eq-eqb, ne-eqb, lt-ltb, le-ltb, le-leb, lt-leb}
-use lib.IntN.{ℤ, natAbs}
+use lib.IntN.{ℤ}
 use lib.ListN.{length, getD, take, drop}
 use Rattle.tools.specs.Answers.{Gives}
-use Rattle.tools.specs.Vint.{vintLength, vintValue, readVint, vintBytes, vintWidth, asVint, asVintWithLength}
-use Rattle.tools.specs.SignedVint.{signedWidth, asSignedVint, asSignedVintWithLength}
+use Rattle.tools.specs.Vint.{vintLength, vintValue, readVint, vintNeedsMore, vintBytes, vintWidth, vintLimit, asVint, asVintWithLength}
+use Rattle.tools.specs.SignedVint.{signedWidth, signedVintLimit, asSignedVint, asSignedVintWithLength}
+use Rattle.tools.specs.Integer.{absoluteValue}
 use Rattle.tools.specs.Twos.{bitsOf}
 use Rattle.tools.specs.declared.errors.ToolError.the-variants.{ReadVintOverflow, WriteVintOverflow, WriteSignedVintOverflow, WidthMismatch, OutputTooShort}
 use Rattle.tools.specs.declared.vint.ReadVint.the-variants.{NeedMore, Refused, Vint}
@@ -36,6 +38,13 @@ module _ (s : List ℕ) (some : length s ≡ 0 → ⊥) where
   unfolding readVint
   read-whole n h = simp (ne-eqb _ _ some, ne-eqb _ _ n, le-ltb _ _ h)
 
+-- where more is asked for
+pub none-needs-more : (s : List ℕ) → length s ≡ 0 → vintNeedsMore (readVint s) ≡ true
+none-needs-more s h = rw (read-none s h)
+
+pub short-needs-more : (s : List ℕ) → (length s ≡ 0 → ⊥) → (getD s 0 0 ≡ 0 → ⊥) → length s < vintLength (getD s 0 0) → vintNeedsMore (readVint s) ≡ true
+short-needs-more s some n h = rw (read-short s some n h)
+
 -- ---- asVintWithLength and asVint
 
 module _ (v L : ℕ) (out : List ℕ) where
@@ -60,21 +69,21 @@ module _ (v L : ℕ) (out : List ℕ) where
     unfolding asVintWithLength
     vint-written f h = simp (ne-eqb _ _ n, le-ltb _ _ w, lt-leb _ _ f, le-ltb _ _ h)
 
-pub least-over : (v : ℕ) (out : List ℕ) → 2 ^ 56 ≤ v → asVint v out ≡ (written.Refused WriteVintOverflow, out)
+pub least-over : (v : ℕ) (out : List ℕ) → vintLimit ≤ v → asVint v out ≡ (written.Refused WriteVintOverflow, out)
 unfolding asVint
 least-over v out h = rw (le-leb _ _ h)
 
-pub least-written : (v : ℕ) (out : List ℕ) → v < 2 ^ 56 → asVint v out ≡ asVintWithLength v (vintWidth v) out
+pub least-written : (v : ℕ) (out : List ℕ) → v < vintLimit → asVint v out ≡ asVintWithLength v (vintWidth v) out
 unfolding asVint
 least-written v out h = rw (lt-leb _ _ h)
 
 -- ---- asSignedVint and asSignedVintWithLength
 
-pub signed-least-over : (z : ℤ) (out : List ℕ) → 2 ^ 55 ≤ natAbs z → asSignedVint z out ≡ (written.Refused WriteSignedVintOverflow, out)
+pub signed-least-over : (z : ℤ) (out : List ℕ) → signedVintLimit ≤ absoluteValue z → asSignedVint z out ≡ (written.Refused WriteSignedVintOverflow, out)
 unfolding asSignedVint
 signed-least-over z out h = rw (le-leb _ _ h)
 
-pub signed-least-written : (z : ℤ) (out : List ℕ) → natAbs z < 2 ^ 55
+pub signed-least-written : (z : ℤ) (out : List ℕ) → absoluteValue z < signedVintLimit
     → asSignedVint z out ≡ asVintWithLength (bitsOf (7 * signedWidth z) z) (signedWidth z) out
 unfolding asSignedVint
 signed-least-written z out h = rw (lt-leb _ _ h)
@@ -89,10 +98,10 @@ module _ (z : ℤ) (L : ℕ) (out : List ℕ) where
   signed-width-over n h = simp (ne-eqb _ _ n, lt-ltb _ _ h)
 
   module _ (n : L ≡ 0 → ⊥) (w : L ≤ 8) where
-    pub signed-over : 2 ^ (7 * L - 1) ≤ natAbs z → asSignedVintWithLength z L out ≡ (written.Refused WriteSignedVintOverflow, out)
+    pub signed-over : 2 ^ (7 * L - 1) ≤ absoluteValue z → asSignedVintWithLength z L out ≡ (written.Refused WriteSignedVintOverflow, out)
     unfolding asSignedVintWithLength
     signed-over h = simp (ne-eqb _ _ n, le-ltb _ _ w, le-leb _ _ h)
 
-    pub signed-written : natAbs z < 2 ^ (7 * L - 1) → asSignedVintWithLength z L out ≡ asVintWithLength (bitsOf (7 * L) z) L out
+    pub signed-written : absoluteValue z < 2 ^ (7 * L - 1) → asSignedVintWithLength z L out ≡ asVintWithLength (bitsOf (7 * L) z) L out
     unfolding asSignedVintWithLength
     signed-written h = simp (ne-eqb _ _ n, le-ltb _ _ w, lt-leb _ _ h)

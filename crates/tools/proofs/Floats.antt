@@ -6,20 +6,15 @@ use native.Mathlib.Omega.{arith}
 use lib.Ieee.{binary32, binary64, nanBits, ofBits, toBits}
 use lib.Ieee.Bits.{ofBits-fits, ofBits-toBits}
 use lib.Ieee.Fits.{fits-widens}
-use Rattle.tools.specs.Float.{widened}
+use Rattle.tools.specs.Float.{widened, KeptNan}
 
--- the binary64 pattern denotes the very value that the binary32 pattern denotes: subnormals, infinities and the zeros' signs included
+-- the binary64 pattern denotes the very value that the binary32 pattern denotes: subnormals, infinities and the zeros'
+-- signs included
 pub same-value : (b : ℕ) → nanBits binary32 b ≡ false → ofBits binary64 (widened b) ≡ ofBits binary32 b
 unfolding widened
 same-value b n = rw n (ofBits-toBits binary64 (ofBits binary32 b) (fits-widens (ofBits binary32 b) (ofBits-fits binary32 b)))
 
--- a NaN's sign, its exponent of ones, its quiet bit, and the fraction's lower 22 bits, in binary64's highest places
-pub record KeptNan (b w : ℕ) : Type 0 where
-  pub sign : w / 2 ^ 63 ≡ b / 2 ^ 31
-  pub exponent : w % 2 ^ 63 / 2 ^ 52 ≡ 2047
-  pub quiet : w % 2 ^ 52 / 2 ^ 51 ≡ 1
-  pub fraction : w % 2 ^ 51 ≡ b % 2 ^ 22 * 2 ^ 29
-
+-- a NaN keeps these
 pub kept-nan : (b : ℕ) → b < 2 ^ 32 → nanBits binary32 b ≡ true → KeptNan b (widened b)
 unfolding widened
 kept-nan b l n = rw n (record { sign = omega arith; exponent = omega arith; quiet = omega arith; fraction = omega arith })

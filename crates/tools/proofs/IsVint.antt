@@ -8,17 +8,14 @@ use native.Mathlib.Nat.{pow-suc}
 use borrow.Author.Tests.{eq-eqb, ne-eqb, eqb-true}
 use lib.Count.{leadingZeros, leading-top, leading-unique}
 use lib.Pow.{pow-pos, pow-mono}
-use Rattle.tools.specs.Vint.{isVint}
+use Rattle.tools.specs.Vint.{isVint, MarkerAt}
 
--- bit 7 k is the highest set one
-pub record MarkerAt (v k : ℕ) : Type 0 where
-  pub lo : 2 ^ (7 * k) ≤ v
-  pub hi : v < 2 ^ (7 * k) * 2
-
+-- accepted by the number of leading zeros
 pub by-zeros : (v : ℕ) → 0 < v → (63 - leadingZeros 64 v) % 7 ≡ 0 → isVint v ≡ true
 unfolding isVint
 by-zeros v p e = rw (ne-eqb _ _ (λ (z : v ≡ 0). omega arith), eq-eqb _ _ e)
 
+-- what is accepted has its highest set bit there
 pub accepted : (v : ℕ) → 0 < v → v < 2 ^ 64 → isVint v ≡ true → MarkerAt v ((63 - leadingZeros 64 v) / 7)
 unfolding isVint
 accepted v p l e =
@@ -27,6 +24,7 @@ accepted v p l e =
     let q : 7 * ((63 - leadingZeros 64 v) / 7) ≡ t .0 = omega (arith, t .1) in
     record { lo = rw q (t .2); hi = rw (q, ← pow-suc 2 (t .0)) (t .3) }
 
+-- and what has is accepted
 pub accepts : (v k : ℕ) → v < 2 ^ 64 → MarkerAt v k → isVint v ≡ true
 accepts v k l m =
     let p : 0 < v = omega (arith, pow-pos (7 * k), m .lo) in

@@ -5,7 +5,7 @@ use mathlib.Core.Bool.{Bool, true, false}
 use mathlib.Core.Logic.{_⊎_, inl, inr, ⊎-elim}
 use native.Mathlib.Omega.{arith}
 use native.Mathlib.Nat.{eq-or-lt-of-le}
-use Rattle.tools.specs.Vint.{leastFrom}
+use Rattle.tools.specs.Vint.{leastFrom, Least}
 
 pub least-here : (test : ℕ → Bool) (n L : ℕ) → 0 < n → test L ≡ true → leastFrom test n L ≡ L
 unfolding leastFrom
@@ -16,13 +16,6 @@ pub least-next : (test : ℕ → Bool) (n L : ℕ) → 0 < n → test L ≡ fals
 unfolding leastFrom
 least-next test zero L h e = absurd (omega arith)
 least-next test (suc n) L h e = let o : suc n - 1 ≡ n = omega arith in rw (e, o)
-
--- w is the first from L on, below top, that passes, or else top
-pub record Least (test : ℕ → Bool) (L top w : ℕ) : Type 0 where
-  pub lo : L ≤ w
-  pub hi : w ≤ top
-  pub passes : w < top → test w ≡ true
-  pub none : (k : ℕ) → L ≤ k → k < w → test k ≡ false
 
 pub least : (test : ℕ → Bool) (n L : ℕ) → Least test L (L + n) (leastFrom test n L)
 unfolding leastFrom

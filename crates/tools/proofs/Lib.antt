@@ -10,3 +10,4 @@ pub mod Signed
 pub mod Floats
 pub mod IsVint
 pub mod Unique
+pub mod Computing

@@ -14,9 +14,9 @@ use lib.ListN.{length, getD, take}
 use lib.Pow.{pow-add, pow-mono, pow-pos}
 use lib.Seq.{length-take-le}
 use Rattle.tools.specs.Bytes.{Octets, beFrom, beNumber}
-use Rattle.tools.specs.Vint.{vintLength, vintValue, leastFrom, widthFor, vintWidth}
+use Rattle.tools.specs.Vint.{vintLength, vintValue, leastFrom, widthFor, vintWidth, Least}
 use Rattle.tools.proofs.BigEndian.{beFrom-split, be-lt, octets-take}
-use Rattle.tools.proofs.Least.{Least, least}
+use Rattle.tools.proofs.Least.{least}
 
 pub length-le-8 : (b : ℕ) → 0 < b → b < 2 ^ 8 → vintLength b ≤ 8
 length-le-8 b p h = let t = leading-top 8 b p h in let e = t .1 in omega arith

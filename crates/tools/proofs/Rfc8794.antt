@@ -1,8 +1,8 @@
--- RFC 8794, section 4: `readVint` answers a value exactly where the octets of a VINT stand in front, and what the writers write is the
--- VINT of the value. Assumes nothing.
+-- RFC 8794, section 4: `readVint` answers a value exactly where the octets of a VINT stand in front, and what the
+-- writers write is the VINT of the value. Assumes nothing.
 use Prim.Native.Nat.{ℕ, zero, suc, _+_, _-_, _*_, _/_, _%_, _^_, _≤_, _<_}
 use mathlib.Core.Path.{_≡_, refl, sym, ap, _∙_, subst}
-use mathlib.Core.Bool.{Bool, true, false}
+use mathlib.Core.Bool.{Bool, true, false, false≢true}
 use mathlib.Core.List.{List, [], _∷_, _++_, append-nil}
 use mathlib.Core.Logic.{⊎-elim}
 use native.Mathlib.Omega.{arith}
@@ -16,21 +16,16 @@ use lib.ListN.{length, getD, take, drop, length-append, List·getD-append}
 use lib.Pow.{pow-add, pow-mono, pow-pos, shr-lt}
 use lib.Seq.{take-at, length-take-le, take-append-le, getD-take}
 use Rattle.tools.specs.Bytes.{Octets, beNumber, beBytes}
-use Rattle.tools.specs.Vint.{IsVint, vintLength, vintValue, allOnes, readVint, vintBytes, leastFrom, vintWidth}
+use Rattle.tools.specs.Vint.{IsVint, Front, Least, vintLimit, vintLength, vintValue, allOnes, readVint, vintNeedsMore, vintBytes, leastFrom, vintWidth}
 use Rattle.tools.specs.declared.errors.ToolError.the-variants.{ReadVintOverflow}
 use Rattle.tools.specs.declared.vint.ReadVint.{ReadVint}
-use Rattle.tools.specs.declared.vint.ReadVint.the-variants.{NeedMore, Refused, Vint}
+use Rattle.tools.specs.declared.vint.ReadVint.the-variants.{Refused, Vint}
 use Rattle.tools.proofs.BigEndian.{length-beBytes, octets-beBytes, octets-take, be-bytes, bytes-be}
-use Rattle.tools.proofs.Cases.{read-none, read-zero, read-short, read-whole}
-use Rattle.tools.proofs.Least.{Least, least}
+use Rattle.tools.proofs.Cases.{read-zero, read-whole, none-needs-more, short-needs-more}
+use Rattle.tools.proofs.Least.{least}
 use Rattle.tools.proofs.Marker.{length-le-8, Marked, marked}
 
 -- ---- what is read is a VINT
-
--- octets of a VINT stand at the front of s, and are all there
-pub record Front (L v : ℕ) (s : List ℕ) : Type 0 where
-  pub whole : L ≤ length s
-  pub vint : IsVint L v (take L s)
 
 front : (s : List ℕ) → Octets s → (length s ≡ 0 → ⊥) → (getD s 0 0 ≡ 0 → ⊥) → vintLength (getD s 0 0) ≤ length s
     → Front (vintLength (getD s 0 0)) (vintValue (vintLength (getD s 0 0)) (take (vintLength (getD s 0 0)) s)) s
@@ -52,6 +47,10 @@ front s byte n z h =
 never : {A : Type 0} → _≡_ {A = ℕ} 0 1 → A
 never e = absurd (omega arith)
 
+-- a vint that was read asks for no more
+not-more : {r : ReadVint} {v L : ℕ} → r ≡ Vint v L → vintNeedsMore r ≡ true → ⊥
+not-more e m = false≢true (sym (ap vintNeedsMore e) ∙ m)
+
 pub read-sound : (s : List ℕ) (L v : ℕ) → Octets s → readVint s ≡ Vint v L → Front L v s
 read-sound s L v byte e = none-or (decLe 1 (length s))
   where
@@ -62,10 +61,7 @@ read-sound s L v byte e = none-or (decLe 1 (length s))
         let w : vintValue (vintLength (getD s 0 0)) (take (vintLength (getD s 0 0)) s) ≡ v = cc in
         rw (← w, ← l) (front s byte n z h)
     whole-or n z (no f) =
-        let h : length s < vintLength (getD s 0 0) = omega arith in
-        let r = read-short s n z h in
-        let no : _≡_ {A = ℕ} 0 1 = cc in
-        never no
+        absurd (not-more e (short-needs-more s n z (omega arith)))
 
     zero-or : (length s ≡ 0 → ⊥) → Dec (1 ≤ getD s 0 0) → Front L v s
     zero-or n (yes h) = whole-or n (λ e. omega arith) (decLe (vintLength (getD s 0 0)) (length s))
@@ -77,11 +73,7 @@ read-sound s L v byte e = none-or (decLe 1 (length s))
 
     none-or : Dec (1 ≤ length s) → Front L v s
     none-or (yes h) = zero-or (λ e. omega arith) (decLe 1 (getD s 0 0))
-    none-or (no f) =
-        let z : length s ≡ 0 = omega arith in
-        let r = read-none s z in
-        let no : _≡_ {A = ℕ} 0 1 = cc in
-        never no
+    none-or (no f) = absurd (not-more e (none-needs-more s (omega arith)))
 
 -- ---- a VINT is read
 
@@ -146,8 +138,8 @@ read-complete L v octets rest i =
 
 -- ---- need more, and what is appended
 
--- an answer other than need-more stays when bytes are appended
-pub read-local : (s t : List ℕ) → (readVint s ≡ NeedMore → ⊥) → readVint (s ++ t) ≡ readVint s
+-- an answer that asks for no more stays when bytes are appended
+pub read-local : (s t : List ℕ) → vintNeedsMore (readVint s) ≡ false → readVint (s ++ t) ≡ readVint s
 read-local s t some = none-or (decLe 1 (length s))
   where
     whole-or : (length s ≡ 0 → ⊥) → (getD s 0 0 ≡ 0 → ⊥) → Dec (vintLength (getD s 0 0) ≤ length s) → readVint (s ++ t) ≡ readVint s
@@ -158,7 +150,7 @@ read-local s t some = none-or (decLe 1 (length s))
         let e : vintLength (getD (s ++ t) 0 0) ≡ L = ap vintLength first in
         read-whole (s ++ t) (λ x. omega arith) (λ x. z (sym first ∙ x)) (rw e (omega arith))
         ∙ rw (e, take-append-le L s t h) (sym (read-whole s n z h))
-    whole-or n z (no f) = let h : length s < vintLength (getD s 0 0) = omega arith in absurd (some (read-short s n z h))
+    whole-or n z (no f) = absurd (false≢true (sym some ∙ short-needs-more s n z (omega arith)))
 
     zero-or : (length s ≡ 0 → ⊥) → Dec (1 ≤ getD s 0 0) → readVint (s ++ t) ≡ readVint s
     zero-or n (yes h) = whole-or n (λ e. omega arith) (decLe (vintLength (getD s 0 0)) (length s))
@@ -170,18 +162,18 @@ read-local s t some = none-or (decLe 1 (length s))
 
     none-or : Dec (1 ≤ length s) → readVint (s ++ t) ≡ readVint s
     none-or (yes h) = zero-or (λ e. omega arith) (decLe 1 (getD s 0 0))
-    none-or (no f) = let z : length s ≡ 0 = omega arith in absurd (some (read-none s z))
+    none-or (no f) = absurd (false≢true (sym some ∙ none-needs-more s (omega arith)))
 
 -- a proper part of the octets of a VINT needs more
-pub read-part : (L v : ℕ) (octets : List ℕ) (k : ℕ) → IsVint L v octets → k < L → readVint (take k octets) ≡ NeedMore
-read-part L v octets zero i h = read-none _ refl
+pub read-part : (L v : ℕ) (octets : List ℕ) (k : ℕ) → IsVint L v octets → k < L → vintNeedsMore (readVint (take k octets)) ≡ true
+read-part L v octets zero i h = none-needs-more _ refl
 read-part L v octets (suc k) i h =
     let s = take (suc k) octets in
     let len : length s ≡ suc k = length-take-le (suc k) octets (omega (arith, i .count)) in
     let first : getD s 0 0 ≡ getD octets 0 0 = getD-take (suc k) octets 0 0 (omega arith) in
     let w : vintLength (getD octets 0 0) ≡ L = width-of i in
     let nz : getD octets 0 0 ≡ 0 → ⊥ = not-zero i in
-    read-short s (λ e. omega arith) (λ e. nz (sym first ∙ e)) (rw (first, w) (omega arith))
+    short-needs-more s (λ e. omega arith) (λ e. nz (sym first ∙ e)) (rw (first, w) (omega arith))
   where
     whole : IsVint L v octets → readVint octets ≡ Vint v L
     whole i = ap readVint (sym (append-nil octets)) ∙ read-complete L v octets [] i
@@ -202,11 +194,7 @@ read-part L v octets (suc k) i h =
             let q = whole i in
             cc
         go (no f) =
-            let h : length octets < vintLength (getD octets 0 0) = omega arith in
-            let r = read-short octets (λ x. omega (arith, i .count, i .at-least-1)) (not-zero i) h in
-            let q = whole i in
-            let no : _≡_ {A = ℕ} 0 1 = cc in
-            never no
+            absurd (not-more (whole i) (short-needs-more octets (λ x. omega (arith, i .count, i .at-least-1)) (not-zero i) (omega arith)))
 
 -- ---- what `as_vint` writes
 
@@ -217,27 +205,27 @@ chosen v = least (λ L. ltb v (2 ^ (7 * L) - 1)) 7 1
 chosen-below : (v : ℕ) → vintWidth v < 8 → v < 2 ^ (7 * vintWidth v) - 1
 chosen-below v h = ltb-true _ _ (chosen v .passes h)
 
-pub least-below : (v : ℕ) → v < 2 ^ 56 → v < 2 ^ (7 * vintWidth v)
+pub least-below : (v : ℕ) → v < vintLimit → v < 2 ^ (7 * vintWidth v)
 least-below v h = ⊎-elim (λ e. rw e h) (λ x. omega (arith, chosen-below v x)) (eq-or-lt-of-le (chosen v .hi))
 
 -- so what is written is a VINT of the value, and is read back
-pub least-is : (v : ℕ) → v < 2 ^ 56 → IsVint (vintWidth v) v (vintBytes (vintWidth v) v)
+pub least-is : (v : ℕ) → v < vintLimit → IsVint (vintWidth v) v (vintBytes (vintWidth v) v)
 least-is v h = written-is (vintWidth v) v (chosen v .lo) (chosen v .hi) (least-below v h)
 
-pub least-back : (v : ℕ) (rest : List ℕ) → v < 2 ^ 56 → readVint (vintBytes (vintWidth v) v ++ rest) ≡ Vint v (vintWidth v)
+pub least-back : (v : ℕ) (rest : List ℕ) → v < vintLimit → readVint (vintBytes (vintWidth v) v ++ rest) ≡ Vint v (vintWidth v)
 least-back v rest h = read-complete (vintWidth v) v (vintBytes (vintWidth v) v) rest (least-is v h)
 
 -- no smaller width holds the value below its all-ones form
 pub least-width : (v L : ℕ) → 1 ≤ L → L < vintWidth v → 2 ^ (7 * L) - 1 ≤ v
 least-width v L p h = ltb-false _ _ (chosen v .none L p h)
 
--- what is written is not the reserved form, all data bits ones, but for 2 ^ 56 - 1
-pub least-known : (v : ℕ) → v < 2 ^ 56 - 1 → allOnes (vintWidth v) v ≡ false
+-- what is written is not the reserved form, all data bits ones, but for the greatest value
+pub least-known : (v : ℕ) → v < vintLimit - 1 → allOnes (vintWidth v) v ≡ false
 least-known v h = ne-eqb _ _ (λ e. ⊎-elim (top e) (λ x. omega (arith, chosen-below v x)) (eq-or-lt-of-le (chosen v .hi)))
   where
     top : v ≡ 2 ^ (7 * vintWidth v) - 1 → vintWidth v ≡ 8 → ⊥
     top e x = let e' : v ≡ 2 ^ 56 - 1 = e ∙ ap (λ (L : ℕ). 2 ^ (7 * L) - 1) x in omega arith
 
-pub least-reserved : allOnes (vintWidth (2 ^ 56 - 1)) (2 ^ 56 - 1) ≡ true
+pub least-reserved : allOnes (vintWidth (vintLimit - 1)) (vintLimit - 1) ≡ true
 unfolding leastFrom
 least-reserved = refl

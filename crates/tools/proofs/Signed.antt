@@ -1,5 +1,5 @@
--- Signed vints and signed integers: the range of what is read, the round trips, the least width and the refused ends, over the number of
--- bits. Assumes nothing.
+-- Signed vints and signed integers: the range of what is read, the round trips, the least width and the refused ends,
+-- over the number of bits. Assumes nothing.
 use Prim.Native.Nat.{ℕ, zero, suc, _+_, _-_, _*_, _^_, _≤_, _<_}
 use mathlib.Core.Path.{_≡_, refl, sym, ap, _∙_}
 use mathlib.Core.List.{List, _++_}
@@ -7,16 +7,19 @@ use native.Mathlib.Omega.{arith}
 use native.Mathlib.Decide.{decLe}
 use native.Mathlib.Nat.{lt-of-le-of-lt}
 use borrow.Author.Tests.{ltb-false}
-use lib.IntN.{ℤ, pos, negsuc, natAbs}
+use lib.IntN.{ℤ, pos, negsuc}
 use lib.ListN.{length, drop}
 use lib.Pow.{pow-pos}
 use lib.Signed.{mag}
 use Rattle.tools.specs.Bytes.{Octets, beNumber}
-use Rattle.tools.specs.Vint.{IsVint, readVint, vintBytes, widthFor, asVintWithLength}
+use Rattle.tools.specs.Vint.{IsVint, readVint, vintNeedsMore, vintBytes, widthFor, asVintWithLength}
+use Rattle.tools.specs.Integer.{absoluteValue}
 use Rattle.tools.specs.Twos.{signedOf, bitsOf}
-use Rattle.tools.specs.SignedVint.{takenSigned, readSignedVint, signedWidth, asSignedVint, asSignedVintWithLength}
+use Rattle.tools.specs.SignedVint.{takenSigned, readSignedVint, signedVintNeedsMore, signedWidth, signedVintLimit, asSignedVint, asSignedVintWithLength}
 use Rattle.tools.specs.declared.errors.ToolError.the-variants.{WriteSignedVintOverflow}
 use Rattle.tools.specs.declared.signed_vint.ReadSignedVint.the-variants.{Vint}
+use Rattle.tools.specs.declared.vint.ReadVint.{ReadVint}
+use Rattle.tools.specs.declared.vint.ReadVint.the-variants as read
 use Rattle.tools.specs.declared.vint.Written.the-variants as written
 use Rattle.tools.proofs.BigEndian.{be-lt}
 use Rattle.tools.proofs.Cases.{signed-least-over, signed-least-written, signed-over, signed-written, vint-written}
@@ -57,7 +60,17 @@ payload-range s byte p = in-range (8 * length s) (beNumber s) (omega arith) (be-
 
 -- ---- signed vints over the width L
 
--- "Reading gives -2 ^ (7L-1) to 2 ^ (7L-1) - 1"
+-- more is asked for where the vint asks for it
+pub signed-needs-more : (s : List ℕ) → signedVintNeedsMore (readSignedVint s) ≡ vintNeedsMore (readVint s)
+unfolding takenSigned
+signed-needs-more s = go (readVint s)
+  where
+    go : (r : ReadVint) → signedVintNeedsMore (takenSigned r) ≡ vintNeedsMore r
+    go read.NeedMore = refl
+    go (read.Refused e) = refl
+    go (read.Vint v L) = refl
+
+-- "Reading gives −2^(7L−1) to 2^(7L−1)−1"
 pub vint-range : (L v : ℕ) (octets : List ℕ) → IsVint L v octets → mag (signedOf (7 * L) v) < 2 ^ (7 * L - 1)
 vint-range L v octets i = in-range (7 * L) v (omega (arith, i .at-least-1)) (i .below)
 
@@ -72,8 +85,8 @@ signed-round-trip L z rest p l h =
 pub signed-least : (z : ℤ) (L : ℕ) → 1 ≤ L → L < signedWidth z → 2 ^ (7 * L - 1) ≤ mag z
 signed-least z L p h = ltb-false _ _ (width-least 1 (mag z) .none L p h)
 
--- and writes it, for every number between -2 ^ 55 and 2 ^ 55, neither included
-pub signed-least-writes : (z : ℤ) (out : List ℕ) → natAbs z < 2 ^ 55 → signedWidth z ≤ length out
+-- and writes it, for every number within the limit, which is not included
+pub signed-least-writes : (z : ℤ) (out : List ℕ) → absoluteValue z < signedVintLimit → signedWidth z ≤ length out
     → asSignedVint z out ≡ (written.Length (signedWidth z), vintBytes (signedWidth z) (bitsOf (7 * signedWidth z) z) ++ drop (signedWidth z) out)
 signed-least-writes z out h l =
     let w = width-least 1 (mag z) in
@@ -81,7 +94,7 @@ signed-least-writes z out h l =
     signed-least-written z out h
     ∙ vint-written (bitsOf (7 * signedWidth z) z) (signedWidth z) out (λ e. omega (arith, w .lo)) (w .hi) (bits-lt (7 * signedWidth z) z (omega (arith, w .lo)) fits) l
 
-pub signed-least-back : (z : ℤ) (rest : List ℕ) → natAbs z < 2 ^ 55
+pub signed-least-back : (z : ℤ) (rest : List ℕ) → absoluteValue z < signedVintLimit
     → readSignedVint (vintBytes (signedWidth z) (bitsOf (7 * signedWidth z) z) ++ rest) ≡ Vint z (signedWidth z)
 signed-least-back z rest h =
     let w = width-least 1 (mag z) in
@@ -89,10 +102,10 @@ signed-least-back z rest h =
 
 -- ---- the refused ends
 
-pub refused-low : (n : ℕ) (out : List ℕ) → 2 ^ 55 ≤ n + 1 → asSignedVint (negsuc n) out ≡ (written.Refused WriteSignedVintOverflow, out)
+pub refused-low : (n : ℕ) (out : List ℕ) → signedVintLimit ≤ n + 1 → asSignedVint (negsuc n) out ≡ (written.Refused WriteSignedVintOverflow, out)
 refused-low n out h = signed-least-over (negsuc n) out (omega arith)
 
-pub refused-high : (n : ℕ) (out : List ℕ) → 2 ^ 55 ≤ n → asSignedVint (pos n) out ≡ (written.Refused WriteSignedVintOverflow, out)
+pub refused-high : (n : ℕ) (out : List ℕ) → signedVintLimit ≤ n → asSignedVint (pos n) out ≡ (written.Refused WriteSignedVintOverflow, out)
 refused-high n out h = signed-least-over (pos n) out h
 
 -- with a width, -2 ^ (7 L - 1) is refused, though its bits would hold it

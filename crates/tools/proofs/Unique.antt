@@ -1,5 +1,5 @@
--- No second answer meets a contract, as the checker reads it: two results, and two lists of lent bytes at exit, that a public routine's
--- contract allows for the same arguments are equal. Assumes nothing.
+-- No second answer meets a contract, as the checker reads it: two results, and two lists of lent bytes at exit, that a
+-- public routine's contract allows for the same arguments are equal. Assumes nothing.
 use Prim.Native.Nat.{ℕ}
 use mathlib.Core.Path.{_≡_, sym, _∙_}
 use mathlib.Core.Bool.{Bool}
@@ -28,6 +28,8 @@ use Rattle.tools.proofs.signed_vint.as_signed_vint.Reads as as-signed-v
 use Rattle.tools.proofs.signed_vint.as_signed_vint.Kinds as as-signed-vint-kinds
 use Rattle.tools.proofs.signed_vint.as_signed_vint_with_length.Reads as as-signed-vint-with-length
 use Rattle.tools.proofs.signed_vint.as_signed_vint_with_length.Kinds as as-signed-vint-with-length-kinds
+use Rattle.tools.proofs.integer.absolute_value.Reads as absolute-value
+use Rattle.tools.proofs.integer.absolute_value.Kinds as absolute-value-kinds
 use Rattle.tools.proofs.integer.arr_to_u64.Reads as arr-to-u64
 use Rattle.tools.proofs.integer.arr_to_u64.Kinds as arr-to-u64-kinds
 use Rattle.tools.proofs.integer.arr_to_i64.Reads as arr-to-i64
@@ -72,6 +74,9 @@ as-signed-vint-one κs a r r' e e' p q = gives-same p q
 pub as-signed-vint-with-length-one : (κs : Lfts 1) (a : Dens κs as-signed-vint-with-length-kinds.ps) (r r' : Written) (e e' : _) → as-signed-vint-with-length.Post κs a r e → as-signed-vint-with-length.Post κs a r' e'
     → (r ≡ r') × (now (e .1 .1 .0) ≡ now (e' .1 .1 .0))
 as-signed-vint-with-length-one κs a r r' e e' p q = gives-same p q
+
+pub absolute-value-one : (κs : Lfts 0) (a : Dens κs absolute-value-kinds.ps) (r r' : ℕ) (e : _) → absolute-value.Post κs a r e → absolute-value.Post κs a r' e → r ≡ r'
+absolute-value-one κs a r r' e p q = same p q
 
 pub arr-to-u64-one : (κs : Lfts 1) (a : Dens κs arr-to-u64-kinds.ps) (r r' : ArrToU64) (e : _) → arr-to-u64.Post κs a r e → arr-to-u64.Post κs a r' e → r ≡ r'
 arr-to-u64-one κs a r r' e p q = same p q

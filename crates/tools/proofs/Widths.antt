@@ -9,8 +9,8 @@ use native.Mathlib.Nat.{eq-or-lt-of-le}
 use borrow.Author.Tests.{lt-ltb, le-ltb, ltb-true, ltb-false}
 use lib.Dec.{ltb}
 use lib.Pow.{pow-pos}
-use Rattle.tools.specs.Vint.{leastFrom, widthFor, vintWidth}
-use Rattle.tools.proofs.Least.{Least, least, least-same}
+use Rattle.tools.specs.Vint.{leastFrom, widthFor, vintWidth, Least}
+use Rattle.tools.proofs.Least.{least, least-same}
 
 -- document 01's words for `as_vint` and the code's: v < 2 ^ (7 L) - 1 where v + 1 < 2 ^ (7 L)
 pub vint-width : (v : ℕ) → vintWidth v ≡ widthFor 0 (v + 1)

@@ -3,6 +3,6 @@ pub mod Answers
 pub mod Bytes
 pub mod Vint
 pub mod Twos
-pub mod SignedVint
 pub mod Integer
+pub mod SignedVint
 pub mod Float

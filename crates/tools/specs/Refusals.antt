@@ -3,6 +3,7 @@ use Prim.Native.Nat.{ℕ}
 use Rattle.tools.specs.declared.errors.ToolError.{ToolError}
 use Rattle.tools.specs.declared.errors.ToolError.the-variants.{ReadVintOverflow, WriteVintOverflow, WriteSignedVintOverflow, WidthMismatch, OutputTooShort, ReadU64Overflow, ReadI64Overflow, ReadF64Mismatch}
 
+-- 1 to 7, each in its order there
 abbrev pub numberOf : ToolError → ℕ
 numberOf ReadVintOverflow = 1
 numberOf WriteVintOverflow = 2

@@ -7,6 +7,7 @@ ghost use lib.ListN.{length, take, drop};
 ghost use Rattle.tools.specs.Bytes.{beNumber, beBytes};
 ghost use Rattle.tools.specs.Vint.{widthFor};
 
+// A byte as a number.
 fn wide(b: u8) -> u64
     ensures { λ r. ⌜ (r ≡ b) × (r < 256) ⌝ }
 {
@@ -47,6 +48,7 @@ pub fn put_be(n: u64, width: usize, out: &mut [u8])
     }
 }
 
+// 2 to the power k.
 pub fn pow2(k: usize) -> u64
     requires { ⌜ k < 64 ⌝ }
     ensures { λ r. ⌜ r ≡ 2 ^ k ⌝ }

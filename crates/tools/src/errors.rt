@@ -4,7 +4,8 @@ ghost use mathlib.Core.Path.{_≡_};
 ghost use Rattle.tools.specs.Refusals.{numberOf};
 
 // The Rust's variants carry the refused number or bytes, which the caller here has lent and still holds.
-// `WidthMismatch` and `OutputTooShort` have no counterpart: there a width is a constant of the type, and the output a Vec.
+// `WidthMismatch` and `OutputTooShort` have no counterpart: there a width is a constant of the type, and the output a
+// Vec.
 pub enum ToolError {
     ReadVintOverflow,
     WriteVintOverflow,

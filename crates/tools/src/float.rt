@@ -6,11 +6,13 @@ ghost use Rattle.tools.specs.Float.{widened, subnormalOf, arrToF64};
 use crate::bytes::be_number;
 use crate::errors::ToolError;
 
+// The 64 bits read, or why not.
 pub enum ArrToF64 {
     Bits(u64),
     Refused(ToolError),
 }
 
+// 32 bits as a number.
 fn wide(x: u32) -> u64
     ensures { λ r. ⌜ r ≡ x ⌝ }
 {
@@ -50,6 +52,7 @@ fn widen(b: u32) -> u64
     sign + subnormal(fraction)
 }
 
+// The 64 bits of a float of 4 or 8 bytes.
 pub fn arr_to_f64(arr: &[u8]) -> ArrToF64
     ensures { λ r. ⌜ r ≡ arrToF64 (now (arr .entry)) ⌝ }
 {

@@ -1,25 +1,30 @@
-// Payloads that are integers: `arr_to_u64` and `arr_to_i64` of tools.rs.
+// Payloads that are integers: `arr_to_u64` and `arr_to_i64` of tools.rs; and |v|.
 
 ghost use mathlib.Core.Path.{_≡_};
 ghost use Rattle.tools.specs.Answers.{Gives};
-ghost use Rattle.tools.specs.Integer.{arrToU64, arrToI64, u64ToArr, i64ToArr};
+ghost use Rattle.tools.specs.Integer.{absoluteValue, arrToU64, arrToI64, u64ToArr, i64ToArr};
 use crate::bytes::be_number;
 use crate::bytes::put_be;
 use crate::errors::ToolError;
 use crate::twos::bits_of;
+use crate::twos::is_negative;
+use crate::twos::mag_of;
 use crate::twos::signed_of;
 use crate::vint::Written;
 
+// A number read, or why not.
 pub enum ArrToU64 {
     Value(u64),
     Refused(ToolError),
 }
 
+// A signed number read, or why not.
 pub enum ArrToI64 {
     Value(i64),
     Refused(ToolError),
 }
 
+// The number of 0 to 8 bytes, big-endian.
 pub fn arr_to_u64(arr: &[u8]) -> ArrToU64
     ensures { λ r. ⌜ r ≡ arrToU64 (now (arr .entry)) ⌝ }
 {
@@ -30,6 +35,7 @@ pub fn arr_to_u64(arr: &[u8]) -> ArrToU64
     ArrToU64::Value(be_number(arr, n))
 }
 
+// The same in two's complement.
 pub fn arr_to_i64(arr: &[u8]) -> ArrToI64
     ensures { λ r. ⌜ r ≡ arrToI64 (now (arr .entry)) ⌝ }
 {
@@ -41,6 +47,17 @@ pub fn arr_to_i64(arr: &[u8]) -> ArrToI64
         return ArrToI64::Value(0);
     }
     ArrToI64::Value(signed_of(be_number(arr, n), 8 * n))
+}
+
+// |val|: how far a number is from 0.
+pub fn absolute_value(val: i64) -> u64
+    ensures { λ r. ⌜ r ≡ absoluteValue val ⌝ }
+{
+    if is_negative(val) {
+        mag_of(val) + 1
+    } else {
+        mag_of(val)
+    }
 }
 
 // A number as the C calls hand it back: eight bytes, big-endian, at the front of the lent ones.

@@ -3,11 +3,12 @@
 ghost use mathlib.Core.Path.{_≡_};
 ghost use mathlib.Core.Bool.{not};
 ghost use Prim.Native.Nat.{_-_, _^_, _≤_, _<_};
-ghost use lib.IntN.{pos, negsuc, natAbs};
+ghost use lib.IntN.{pos, negsuc};
 ghost use lib.Signed.{mag, nonNeg};
 ghost use Rattle.tools.specs.Twos.{signedOf, bitsOf};
 use crate::bytes::pow2;
 
+// x itself, which 63 bits hold.
 fn plus(x: u64) -> i64
     requires { ⌜ x < 2 ^ 63 ⌝ }
     ensures { λ r. ⌜ r ≡ pos x ⌝ }
@@ -35,7 +36,8 @@ pub fn signed_of(value: u64, bits: usize) -> i64
     minus(half - 1 - (value - half))
 }
 
-fn is_negative(val: i64) -> bool
+// Whether a number is below 0.
+pub fn is_negative(val: i64) -> bool
     ensures { λ r. ⌜ r ≡ not (nonNeg val) ⌝ }
 {
     val < 0
@@ -46,16 +48,6 @@ pub fn mag_of(val: i64) -> u64
     ensures { λ r. ⌜ r ≡ mag val ⌝ }
 {
     if val < 0 { (!val) as u64 } else { val as u64 }
-}
-
-pub fn abs_of(val: i64) -> u64
-    ensures { λ r. ⌜ r ≡ natAbs val ⌝ }
-{
-    if is_negative(val) {
-        mag_of(val) + 1
-    } else {
-        mag_of(val)
-    }
 }
 
 // So many bits, all of them ones.

@@ -10,6 +10,9 @@ use crate::bytes::pow2;
 use crate::bytes::put_be;
 use crate::errors::ToolError;
 
+// No vint holds this value or a greater one: 8 bytes have 56 bits of data.
+const VINT_LIMIT: u64 = 0x0100_0000_0000_0000;
+
 // What stands at the front of some bytes.
 pub enum ReadVint {
     NeedMore,
@@ -31,6 +34,7 @@ fn vint_length(first: u8) -> usize
     u8::leading_zeros(first) as usize + 1
 }
 
+// The vint at the front of the bytes.
 pub fn read_vint(buffer: &[u8]) -> ReadVint
     ensures { λ r. ⌜ r ≡ readVint (now (buffer .entry)) ⌝ }
 {
@@ -51,15 +55,17 @@ pub fn read_vint(buffer: &[u8]) -> ReadVint
     }
 }
 
+// The vint of a value, of the least width, at the front of `out`.
 pub fn as_vint(val: u64, out: &mut [u8]) -> Written
     ensures { λ r. ⌜ Gives r (now (out .exit)) (asVint val (now (out .entry))) ⌝ }
 {
-    if pow2(56) <= val {
+    if VINT_LIMIT <= val {
         return Written::Refused(ToolError::WriteVintOverflow);
     }
     as_vint_with_length(val, least_width(val + 1, 0), out)
 }
 
+// The vint of a value in so many bytes.
 pub fn as_vint_with_length(val: u64, width: usize, out: &mut [u8]) -> Written
     ensures { λ r. ⌜ Gives r (now (out .exit)) (asVintWithLength val width (now (out .entry))) ⌝ }
 {
@@ -80,6 +86,7 @@ pub fn as_vint_with_length(val: u64, width: usize, out: &mut [u8]) -> Written
     Written::Length(width)
 }
 
+// Whether the highest set bit is where a vint has its marker.
 pub fn is_vint(val: u64) -> bool
     ensures { λ r. ⌜ r ≡ isVint val ⌝ }
 {

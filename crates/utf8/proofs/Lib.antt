@@ -6,3 +6,4 @@ pub mod Decoding
 pub mod Rfc3629
 pub mod Unique
 pub mod Examples
+pub mod Computing

@@ -1,5 +1,5 @@
--- RFC 3629: `isText` is true exactly of the encodings of lists of code points (`sound`, `complete`), and octets after a text are a text where they
--- are one by themselves (`concatenation`). Assumes nothing.
+-- RFC 3629: `isText` is true exactly of the encodings of lists of code points (`sound`, `complete`), and octets after a
+-- text are a text where they are one by themselves (`concatenation`). Assumes nothing.
 use Prim.Native.Nat.{ℕ, zero, suc, _≤_, _<_}
 use mathlib.Core.Path.{_≡_, refl, sym, ap, _∙_}
 use mathlib.Core.Bool.{Bool, true, false, cond, _&&_, _||_, true≢false, and-eq-true-iff}

@@ -1,5 +1,6 @@
--- A row of section 4 and the table of section 3 say the same: what fits a row are the encodings of the numbers from its least to its greatest,
--- both computed from the row's ranges. One law for every row, over what `regular` tests of it. Assumes nothing.
+-- A row of section 4 and the table of section 3 say the same: what fits a row are the encodings of the numbers from its
+-- least to its greatest, both computed from the row's ranges. One law for every row, over what `regular` tests of it.
+-- Assumes nothing.
 use Prim.Native.Nat.{ℕ, zero, suc, _+_, _-_, _*_, _/_, _%_, _^_, _≤_, _<_}
 use mathlib.Core.Path.{_≡_, refl, sym, ap, _∙_}
 use mathlib.Core.Bool.{Bool, true, false, _&&_, _||_, false≢true, and-eq-true-iff}
@@ -123,7 +124,8 @@ tails-complete (r ∷ rs) c x y t u l h =
 
 -- ---- whole characters
 
--- the lines of section 3's table, by the number k of octets after the first: the bits set in the first octet, and the first and the last number
+-- the lines of section 3's table, by the number k of octets after the first: the bits set in the first octet, and the
+-- first and the last number
 abbrev pub mark : ℕ → ℕ
 mark zero = 0
 mark (suc zero) = 0xC0

@@ -1,4 +1,5 @@
--- Section 4's table by a first octet: the row that begins with it decides, and where no row does there is no character. Assumes nothing.
+-- Section 4's table by a first octet: the row that begins with it decides, and where no row does there is no character.
+-- Assumes nothing.
 use Prim.Native.Nat.{ℕ, suc, _+_, _≤_, _<_}
 use mathlib.Core.Path.{_≡_, refl, sym, ap, _∙_}
 use mathlib.Core.Bool.{Bool, true, false, cond, _&&_, _||_, false≢true, and-eq-true-iff}

@@ -1,4 +1,5 @@
--- `isText` goes by characters: where none stands in front there is no text, else the text goes on after it (`Passed`, by index). Assumes nothing.
+-- `isText` goes by characters: where none stands in front there is no text, else the text goes on after it (`Passed`,
+-- by index). Assumes nothing.
 use Prim.Native.Nat.{ℕ, zero, suc, _+_, _-_, _≤_, _<_}
 use mathlib.Core.Path.{_≡_, refl, sym, ap, _∙_}
 use mathlib.Core.Bool.{Bool, true, false, cond}

@@ -10,7 +10,8 @@ unfoldable pub following : ℕ → Range → List Range
 following zero r = []
 following (suc n) r = r ∷ following n tail
 
--- from i to r whole characters are passed over: what is left from r on is a text exactly where what is left from i on is
+-- from i to r whole characters are passed over: what is left from r on is a text exactly where what is left from i on
+-- is
 pub record Passed (s : List ℕ) (i r : ℕ) : Type 0 where
   pub forward : i ≤ r
   pub inside : r ≤ length s

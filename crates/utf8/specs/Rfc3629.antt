@@ -9,7 +9,8 @@ use lib.ListN.{length}
 
 -- ---- section 3: characters and their octets
 
--- "characters from the U+0000..U+10FFFF range"; "The definition of UTF-8 prohibits encoding character numbers between U+D800 and U+DFFF"
+-- "characters from the U+0000..U+10FFFF range"; "The definition of UTF-8 prohibits encoding character numbers between
+-- U+D800 and U+DFFF"
 pub record CodePoint (c : ℕ) : Type 0 where
   pub at-most : c ≤ 0x10FFFF
   pub no-surrogate : (c < 0xD800) ⊎ (0xDFFF < c)
@@ -19,8 +20,8 @@ abbrev pub CodePoints : List ℕ → Type 0
 CodePoints [] = Unit
 CodePoints (c ∷ cs) = CodePoint c × CodePoints cs
 
--- "The following octet(s) all have the higher-order bit set to 1 and the following bit set to 0, leaving 6 bits in each": the k lowest
--- groups of 6 bits of c, the highest first
+-- "The following octet(s) all have the higher-order bit set to 1 and the following bit set to 0, leaving 6 bits in
+-- each": the k lowest groups of 6 bits of c, the highest first
 unfoldable pub tails : ℕ → ℕ → List ℕ
 tails zero c = []
 tails (suc k) c = (0x80 + c / 2 ^ (6 * k) % 2 ^ 6) ∷ tails k c

@@ -1,4 +1,5 @@
-// The check in place of String::from_utf8: whether some bytes are a text in UTF-8, RFC 3629. One pass, no table; what a text is stands in specs/.
+// The check in place of String::from_utf8: whether some bytes are a text in UTF-8, RFC 3629. One pass, no table; what a
+// text is stands in specs/.
 
 ghost use mathlib.Core.Path.{_≡_};
 ghost use mathlib.Core.Bool.{true, cond};
@@ -51,7 +52,8 @@ fn past_ascii(s: &[u8], i: usize) -> usize
     past_runs(s, past_runs(s, past_runs(s, i, 64), 8), 1)
 }
 
-// The length of a character whose first octet, at i, has n octets after it, the next one from low to high; 0 where they do not follow.
+// The length of a character whose first octet, at i, has n octets after it, the next one from low to high; 0 where they
+// do not follow.
 fn followed(s: &[u8], i: usize, n: usize, mut low: u8, mut high: u8) -> usize
     requires { ⌜ (i < length (now s)) × (n ≤ 3) ⌝ }
     ensures { λ r. ⌜ r ≡ cond (fits (following n (low, high)) (drop (i + 1) (now (s .entry)))) (n + 1) 0 ⌝ }

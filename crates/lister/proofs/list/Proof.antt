@@ -1,4 +1,5 @@
--- `lister::list` is safe and ends. The invariant: the buffer keeps its length. The measure is the number of turns that are left. Assumes nothing.
+-- `lister::list` is safe and ends. The invariant: the buffer keeps its length. The measure is the number of steps that
+-- are left. Assumes nothing.
 use mathlib.Core.Path.{_≡_}
 use lib.ListN.{length}
 use borrow.Author.Needs.{needs}
@@ -6,10 +7,10 @@ use Rattle.lister.proofs.list.Statement.{statement}
 use Rattle.lister.proofs.list.Tie as tie
 
 abbrev Inv-loop : tie.InvT-loop
-Inv-loop buffer₀ listing₀ turns₀ buffer listing turns = length buffer ≡ length buffer₀
+Inv-loop buffer₀ listing₀ steps-left₀ buffer listing steps-left = length buffer ≡ length buffer₀
 
 abbrev μ-loop : tie.MeasureT-loop
-μ-loop buffer₀ listing₀ turns₀ buffer listing turns = turns
+μ-loop buffer₀ listing₀ steps-left₀ buffer listing steps-left = steps-left
 
 start-requires : tie.Need-start-requires Inv-loop μ-loop
 start-requires c κs = search needs
@@ -26,8 +27,8 @@ same-length c = search needs
 returns : tie.Need-returns Inv-loop μ-loop
 returns c = search needs
 
-sub-turns : tie.Need-sub-turns Inv-loop μ-loop
-sub-turns c = search needs
+sub-steps-left : tie.Need-sub-steps-left Inv-loop μ-loop
+sub-steps-left c = search needs
 
 loop-less : tie.Need-loop-less Inv-loop μ-loop
 loop-less c = search needs
@@ -52,7 +53,7 @@ list-spec =
     step-requires
     same-length
     returns
-    sub-turns
+    sub-steps-left
     loop-less
     loop-again
     same-length-2

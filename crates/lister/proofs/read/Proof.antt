@@ -1,4 +1,5 @@
--- `lister::read` is safe and ends. The invariant: the lent bytes keep their number. The measure is how many tries are left. Assumes nothing.
+-- `lister::read` is safe and ends. The invariant: the lent bytes keep their number. The measure is how many tries are
+-- left. Assumes nothing.
 use Prim.Native.Nat.{_-_}
 use mathlib.Core.Path.{_≡_}
 use lib.ListN.{length}

@@ -1,4 +1,5 @@
--- `utf8::followed`. The invariant: the octets up to k are those that are to follow, so the ones from k on decide. Assumes nothing.
+-- `utf8::followed`. The invariant: the octets up to k are those that are to follow, so the ones from k on decide.
+-- Assumes nothing.
 use Prim.Native.Nat.{_+_, _-_, _≤_, _<_}
 use mathlib.Core.Path.{_≡_, sym, _∙_}
 use native.Mathlib.Omega.{arith}

@@ -1,5 +1,6 @@
--- `bench_calls::lines::answer_lines` meets its contract. The invariant: the lent words and bytes keep their number, the table's words and the filled bytes are
--- within them, and the script's length is a `usize`. The measure is what is left of the script. Assumes nothing.
+-- `bench_calls::lines::answer_lines` meets its contract. The invariant: the lent words and bytes keep their number, the
+-- table's words and the filled bytes are within them, and the script's length is a `usize`. The measure is what is left
+-- of the script. Assumes nothing.
 use Prim.Native.Nat.{_-_, _^_, _≤_, _<_}
 use mathlib.Core.Path.{_≡_}
 use lib.ListN.{length}

@@ -1,4 +1,5 @@
--- `bench_calls::seen::bits_of` is safe: the magnitude of an `i64`, turned over where it is negative, is below 2^63. Assumes nothing.
+-- `bench_calls::seen::bits_of` is safe: the magnitude of an `i64`, turned over where it is negative, is below 2^63.
+-- Assumes nothing.
 use mir.Syntax.{w64}
 use mir.ValLaws.{half-full}
 use borrow.Author.Needs.{needs}

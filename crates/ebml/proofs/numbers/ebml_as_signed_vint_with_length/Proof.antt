@@ -1,4 +1,5 @@
--- `ebml::numbers::ebml_as_signed_vint_with_length`: the number of what `as_signed_vint_with_length` answers. Assumes nothing.
+-- `ebml::numbers::ebml_as_signed_vint_with_length`: the number of what `as_signed_vint_with_length` answers. Assumes
+-- nothing.
 use mir.Syntax.{w64}
 use mir.ValLaws.{toZ-ofZ}
 use Rattle.ebml.proofs.Laws.{written}

@@ -1,6 +1,5 @@
 -- `ebml::numbers::ebml_read_vint`, by the answer of `read_vint`. Assumes nothing.
 use mathlib.Core.Path.{_≡_, refl}
-use Rattle.ebml.proofs.Laws.{handed}
 use borrow.Author.Needs.{needs}
 use Rattle.ebml.proofs.numbers.ebml_read_vint.Statement.{statement}
 use Rattle.ebml.proofs.numbers.ebml_read_vint.Tie as tie
@@ -20,27 +19,23 @@ refusal-requires c κs = search needs
 enum-known-value : tie.Need-enum-known-value
 enum-known-value c = search needs
 
-u64-to-arr-requires : tie.Need-u64-to-arr-requires
-u64-to-arr-requires c κs = search needs
-
-result-of-requires : tie.Need-result-of-requires
-result-of-requires c κs = search needs
+hand-out-requires : tie.Need-hand-out-requires
+hand-out-requires c κs = search needs
 
 returns : tie.Need-returns
 returns c = rw (← c .before .before .read-vint .ensures, c .enum-told .given .1) (record { answer = refl; bytes = refl })
 
 returns-2 : tie.Need-returns-2
-returns-2 c =
-    rw (← c .before .before .before .before .read-vint .ensures, c .before .before .e .given .1) (record { answer = c .refusal .ensures; bytes = refl })
+returns-2 c = rw (← c .before .before .before .before .read-vint .ensures, c .before .before .e .given .1) (record { answer = c .refusal .ensures; bytes = refl })
 
 same-length : tie.Need-same-length
 same-length c = search needs
 
 returns-3 : tie.Need-returns-3
 returns-3 c =
-    let u = c .before .before .before in
-    let v = u .before .before .before in
-    rw (← v .before .before .read-vint .ensures, v .value .given .1) (handed _ _ _ (c .result-of .ensures) (u .u64-to-arr .ensures))
+    let h = c .before .before in
+    let v = h .before .before .before in
+    rw (← v .before .before .read-vint .ensures, v .value .given .1) (h .hand-out .ensures)
 
 pub ebml-read-vint-spec : {M : Type 1} → statement M
 ebml-read-vint-spec =
@@ -51,8 +46,7 @@ ebml-read-vint-spec =
     enum-known-e
     refusal-requires
     enum-known-value
-    u64-to-arr-requires
-    result-of-requires
+    hand-out-requires
     returns
     returns-2
     same-length

@@ -1,7 +1,7 @@
 -- `event_list::lines::put_answer`, by the answer. Assumes nothing.
 use native.Mathlib.Omega.{arith}
 use Rattle.event_list.specs.Line.{answerText}
-use Rattle.event_list.proofs.Putting.{within}
+use Rattle.numerals.proofs.Putting.{within}
 use borrow.Author.Needs.{needs}
 use Rattle.event_list.proofs.lines.put_answer.Statement.{statement}
 use Rattle.event_list.proofs.lines.put_answer.Tie as tie

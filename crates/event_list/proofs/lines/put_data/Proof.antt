@@ -1,12 +1,12 @@
 -- `event_list::lines::put_data`: the element, and then its value. Assumes nothing.
 use mathlib.Core.Path.{_≡_}
-use Rattle.event_list.proofs.Putting.{and-then}
+use Rattle.numerals.proofs.Putting.{and-then}
 use borrow.Author.Needs.{needs}
 use Rattle.event_list.proofs.lines.put_data.Statement.{statement}
 use Rattle.event_list.proofs.lines.put_data.Tie as tie
 
-kind-of-requires : tie.Need-kind-of-requires
-kind-of-requires c κs = search needs
+letter-of-requires : tie.Need-letter-of-requires
+letter-of-requires c κs = search needs
 
 put-element-requires : tie.Need-put-element-requires
 put-element-requires c κs = search needs
@@ -19,10 +19,10 @@ same-length c = search needs
 
 returns : tie.Need-returns
 returns c =
-    let k = c .before .before .before .before .before .before .before .before .kind-of .ensures in
+    let k = c .before .before .before .before .before .before .before .before .letter-of .ensures in
     and-then (rw k at (c .before .before .before .before .before .before .put-element .ensures)) (c .before .before .put-value .ensures)
 
 pub put-data-spec : {M : Type 1} → statement M
 put-data-spec =
     tie.close
-    (tie.spec kind-of-requires put-element-requires put-value-requires same-length returns)
+    (tie.spec letter-of-requires put-element-requires put-value-requires same-length returns)

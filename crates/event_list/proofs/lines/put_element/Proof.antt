@@ -1,6 +1,6 @@
 -- `event_list::lines::put_element`: kind, ID and offset. Assumes nothing.
-use Rattle.event_list.specs.Line.{element}
-use Rattle.event_list.proofs.Putting.{and-then}
+use Rattle.event_list.specs.Line.{elementText}
+use Rattle.numerals.proofs.Putting.{and-then}
 use borrow.Author.Needs.{needs}
 use Rattle.event_list.proofs.lines.put_element.Statement.{statement}
 use Rattle.event_list.proofs.lines.put_element.Tie as tie
@@ -18,7 +18,7 @@ same-length : tie.Need-same-length
 same-length c = search needs
 
 returns : tie.Need-returns
-unfolding element
+unfolding elementText
 returns c = and-then (and-then (c .before .before .before .before .before .before .before .before .before .before .put .ensures) (c .before .before .before .before .before .before .put-id .ensures)) (c .before .before .put-number .ensures)
 
 pub put-element-spec : {M : Type 1} → statement M

@@ -1,7 +1,7 @@
 -- `event_list::lines::put_event`, by the kind of event. Assumes nothing.
 use native.Mathlib.Omega.{arith}
 use Rattle.event_list.specs.Line.{eventText}
-use Rattle.event_list.proofs.Putting.{within}
+use Rattle.numerals.proofs.Putting.{within}
 use borrow.Author.Needs.{needs}
 use Rattle.event_list.proofs.lines.put_event.Statement.{statement}
 use Rattle.event_list.proofs.lines.put_event.Tie as tie

@@ -1,7 +1,7 @@
 -- `event_list::lines::put_integer`: a space, and then the number. Assumes nothing.
 use mir.Syntax.{w64}
 use mir.ValLaws.{toZ-ofZ}
-use Rattle.event_list.proofs.Putting.{and-then}
+use Rattle.numerals.proofs.Putting.{and-then}
 use borrow.Author.Needs.{needs}
 use Rattle.event_list.proofs.lines.put_integer.Statement.{statement}
 use Rattle.event_list.proofs.lines.put_integer.Tie as tie

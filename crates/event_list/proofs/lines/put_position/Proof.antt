@@ -1,6 +1,6 @@
 -- `event_list::lines::put_position`: the letter, and then the position. Assumes nothing.
 use Rattle.event_list.specs.Line.{positionText}
-use Rattle.event_list.proofs.Putting.{and-then}
+use Rattle.numerals.proofs.Putting.{and-then}
 use borrow.Author.Needs.{needs}
 use Rattle.event_list.proofs.lines.put_position.Statement.{statement}
 use Rattle.event_list.proofs.lines.put_position.Tie as tie

@@ -1,6 +1,6 @@
 -- `event_list::lines::put_range`: begin, and then end. Assumes nothing.
 use Rattle.event_list.specs.Line.{rangeText}
-use Rattle.event_list.proofs.Putting.{and-then}
+use Rattle.numerals.proofs.Putting.{and-then}
 use borrow.Author.Needs.{needs}
 use Rattle.event_list.proofs.lines.put_range.Statement.{statement}
 use Rattle.event_list.proofs.lines.put_range.Tie as tie

@@ -1,6 +1,6 @@
 -- `event_list::lines::put_refusal`: the letter, the number, the place. Assumes nothing.
 use Rattle.event_list.specs.Line.{refusalText}
-use Rattle.event_list.proofs.Putting.{and-then}
+use Rattle.numerals.proofs.Putting.{and-then}
 use borrow.Author.Needs.{needs}
 use Rattle.event_list.proofs.lines.put_refusal.Statement.{statement}
 use Rattle.event_list.proofs.lines.put_refusal.Tie as tie

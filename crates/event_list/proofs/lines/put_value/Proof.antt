@@ -3,7 +3,7 @@ use native.Mathlib.Omega.{arith}
 use mir.Syntax.{w64}
 use mir.ValLaws.{toZ-ofZ}
 use Rattle.event_list.specs.Line.{valueText}
-use Rattle.event_list.proofs.Putting.{within}
+use Rattle.numerals.proofs.Putting.{within}
 use borrow.Author.Needs.{needs}
 use Rattle.event_list.proofs.lines.put_value.Statement.{statement}
 use Rattle.event_list.proofs.lines.put_value.Tie as tie

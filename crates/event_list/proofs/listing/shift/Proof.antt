@@ -1,5 +1,5 @@
--- `event_list::listing::shift`. The invariant: the first i bytes are those from `from` on, the others as they came. The measure is how many are left to move.
--- Assumes nothing.
+-- `event_list::listing::shift`. The invariant: the first i bytes are those from `from` on, the others as they came. The
+-- measure is how many are left to move. Assumes nothing.
 use Prim.Native.Nat.{_+_, _-_, _≤_, _<_}
 use mathlib.Core.Path.{_≡_, refl, _∙_}
 use mathlib.Core.List.{_++_}

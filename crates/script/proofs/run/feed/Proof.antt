@@ -1,5 +1,6 @@
--- `script::run::feed` meets its contract. The invariant: the lent bytes and words keep their number, what is held and filled is within them,
--- `at` is within the chunk, and the chunk's length is a `usize`. The measure is what is left of the chunk. Assumes nothing.
+-- `script::run::feed` meets its contract. The invariant: the lent bytes and words keep their number, what is held and
+-- filled is within them, `at` is within the chunk, and the chunk's length is a `usize`. The measure is what is left of
+-- the chunk. Assumes nothing.
 use Prim.Native.Nat.{_-_, _^_, _≤_, _<_}
 use lib.ListN.{length}
 use mathlib.Core.Path.{_≡_}

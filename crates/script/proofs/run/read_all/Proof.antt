@@ -1,5 +1,5 @@
--- `script::run::read_all` meets its contract. The invariant: the lent bytes and words keep their number, and what is held and filled is
--- within them. The measure is the number of turns that are left. Assumes nothing.
+-- `script::run::read_all` meets its contract. The invariant: the lent bytes and words keep their number, and what is
+-- held and filled is within them. The measure is the number of turns that are left. Assumes nothing.
 use lib.ListN.{length}
 use mathlib.Core.Path.{_≡_}
 use Rattle.script.specs.Within.{Within}

@@ -1,5 +1,5 @@
--- `script_decoder::setting::add_all` is safe and ends. Nothing has to hold from field to field, so the invariant says nothing.
--- The measure is what is left of the fields, with their end. Assumes nothing.
+-- `script_decoder::setting::add_all` is safe and ends. Nothing has to hold from field to field, so the invariant says
+-- nothing. The measure is what is left of the fields, with their end. Assumes nothing.
 use Prim.Native.Nat.{_+_, _-_}
 use lib.ListN.{length}
 use borrow.Author.Needs.{needs}

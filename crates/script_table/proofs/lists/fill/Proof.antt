@@ -1,5 +1,5 @@
--- `script_table::lists::fill` meets its contract. The invariant: the lent words keep their number, and the count is within them.
--- The measure is what is left of the list, with its end. Assumes nothing.
+-- `script_table::lists::fill` meets its contract. The invariant: the lent words keep their number, and the count is
+-- within them. The measure is what is left of the list, with its end. Assumes nothing.
 use Prim.Native.Nat.{_+_, _-_, _≤_}
 use lib.ListN.{length}
 use mathlib.Core.Path.{_≡_}

@@ -1,5 +1,5 @@
--- `script_table::lists::has_words` is safe and ends. Nothing has to hold from item to item, so the invariant says nothing.
--- The measure is what is left of the list, with its end. Assumes nothing.
+-- `script_table::lists::has_words` is safe and ends. Nothing has to hold from item to item, so the invariant says
+-- nothing. The measure is what is left of the list, with its end. Assumes nothing.
 use Prim.Native.Nat.{_+_, _-_}
 use lib.ListN.{length}
 use borrow.Author.Needs.{needs}

@@ -1,5 +1,5 @@
--- `script_table::stack::read_items` is safe and ends. Nothing has to hold from item to item, so the invariant says nothing.
--- The measure is what is left of the list, with its end. Assumes nothing.
+-- `script_table::stack::read_items` is safe and ends. Nothing has to hold from item to item, so the invariant says
+-- nothing. The measure is what is left of the list, with its end. Assumes nothing.
 use Prim.Native.Nat.{_+_, _-_}
 use lib.ListN.{length}
 use borrow.Author.Needs.{needs}
@@ -7,13 +7,10 @@ use Rattle.script_table.proofs.stack.read_items.Statement.{statement}
 use Rattle.script_table.proofs.stack.read_items.Tie as tie
 
 abbrev Inv-loop : tie.InvT-loop
-Inv-loop list tags₀ count₀ at₀ tags count at = Unit {0}
+Inv-loop list ids₀ knowns₀ count₀ at₀ ids knowns count at = Unit {0}
 
 abbrev μ-loop : tie.MeasureT-loop
-μ-loop list tags₀ count₀ at₀ tags count at = length list + 1 - at
-
-no-tag-requires : tie.Need-no-tag-requires Inv-loop μ-loop
-no-tag-requires c κs = search needs
+μ-loop list ids₀ knowns₀ count₀ at₀ ids knowns count at = length list + 1 - at
 
 loop-holds : tie.Need-loop-holds Inv-loop μ-loop
 loop-holds c = search needs
@@ -33,8 +30,8 @@ part-read-item-end c = search needs
 read-item-requires : tie.Need-read-item-requires Inv-loop μ-loop
 read-item-requires c κs = search needs
 
-enum-known-tag : tie.Need-enum-known-tag Inv-loop μ-loop
-enum-known-tag c = search needs
+enum-known-id : tie.Need-enum-known-id Inv-loop μ-loop
+enum-known-id c = search needs
 
 enum-told : tie.Need-enum-told Inv-loop μ-loop
 enum-told c = search needs
@@ -51,11 +48,14 @@ no-stack-requires-2 c κs = search needs
 returns-2 : tie.Need-returns-2 Inv-loop μ-loop
 returns-2 c = search needs
 
-mul-tags : tie.Need-mul-tags Inv-loop μ-loop
-mul-tags c = search needs
+mul-ids : tie.Need-mul-ids Inv-loop μ-loop
+mul-ids c = search needs
 
-array-set-from-tags : tie.Need-array-set-from-tags Inv-loop μ-loop
-array-set-from-tags c = search needs
+array-write-ids : tie.Need-array-write-ids Inv-loop μ-loop
+array-write-ids c = search needs
+
+array-write-knowns : tie.Need-array-write-knowns Inv-loop μ-loop
+array-write-knowns c = search needs
 
 add-count : tie.Need-add-count Inv-loop μ-loop
 add-count c = search needs
@@ -78,21 +78,21 @@ read-items-spec =
     (tie.spec
     Inv-loop
     μ-loop
-    no-tag-requires
     loop-holds
     item-end-requires
     sub-read-item
     part-read-item-start
     part-read-item-end
     read-item-requires
-    enum-known-tag
+    enum-known-id
     enum-told
     no-stack-requires
     returns
     no-stack-requires-2
     returns-2
-    mul-tags
-    array-set-from-tags
+    mul-ids
+    array-write-ids
+    array-write-knowns
     add-count
     add-at
     loop-less

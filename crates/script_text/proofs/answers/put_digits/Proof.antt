@@ -1,5 +1,5 @@
--- `script_text::answers::put_digits` meets its contract. The invariant: the lent bytes keep their number, and the place is within them.
--- The measure is how many bytes are left. Assumes nothing.
+-- `script_text::answers::put_digits` meets its contract. The invariant: the lent bytes keep their number, and the place
+-- is within them. The measure is how many bytes are left. Assumes nothing.
 use Prim.Native.Nat.{_-_, _≤_}
 use lib.ListN.{length}
 use mathlib.Core.Path.{_≡_}

@@ -1,5 +1,5 @@
--- `script_text::answers::put_text` meets its contract. The invariant: the lent bytes keep their number, and the place is within them.
--- The measure is what is left of the text. Assumes nothing.
+-- `script_text::answers::put_text` meets its contract. The invariant: the lent bytes keep their number, and the place
+-- is within them. The measure is what is left of the text. Assumes nothing.
 use Prim.Native.Nat.{_-_, _≤_}
 use lib.ListN.{length}
 use mathlib.Core.Path.{_≡_}

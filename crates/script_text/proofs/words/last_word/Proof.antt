@@ -1,4 +1,5 @@
--- `script_text::words::last_word` meets its contract. The invariant: `i` is within the line. The measure is `i`. Assumes nothing.
+-- `script_text::words::last_word` meets its contract. The invariant: `i` is within the line. The measure is `i`.
+-- Assumes nothing.
 use Prim.Native.Nat.{_≤_}
 use lib.ListN.{length}
 use borrow.Author.Needs.{needs}

@@ -1,5 +1,5 @@
--- `script_text::words::same` is safe and ends. The invariant: `i` is within the first text, and so within the second, which is as long.
--- The measure is what is left of it. Assumes nothing.
+-- `script_text::words::same` is safe and ends. The invariant: `i` is within the first text, and so within the second,
+-- which is as long. The measure is what is left of it. Assumes nothing.
 use Prim.Native.Nat.{_-_, _≤_}
 use lib.ListN.{length}
 use borrow.Author.Needs.{needs}

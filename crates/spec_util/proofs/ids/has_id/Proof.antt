@@ -4,23 +4,23 @@ use mathlib.Core.Path.{_≡_, refl, sym, _∙_}
 use mathlib.Core.List.{List}
 use native.Mathlib.Omega.{arith}
 use lib.ListN.{length, getD, drop}
-use Rattle.table.specs.Lists.{any}
-use Rattle.table.specs.Table.{partsOf, within}
+use Rattle.basics.specs.Lists.{any}
+use Rattle.table.specs.Table.{partsOf, partsIn}
 use Rattle.table.specs.declared.types.PathPart.{PathPart}
 use Rattle.table.specs.declared.types.PathPart.the-variants.{Id}
-use Rattle.table.proofs.Loops.{any-here, any-next, any-end}
+use Rattle.basics.proofs.Loops.{any-here, any-next, any-end}
 use Rattle.spec_util.specs.Ended.{isIdOf, hasId}
 use Rattle.spec_util.proofs.ids.has_id.Statement.{statement}
 use Rattle.spec_util.proofs.ids.has_id.Tie as tie
 
 abbrev Inv-loop : tie.InvT-loop
-Inv-loop parts id path count i₀ i = (i ≤ count) × (hasId id (within (partsOf parts) path) ≡ any (isIdOf id) (drop i (within (partsOf parts) path)))
+Inv-loop parts id path count i₀ i = (i ≤ count) × (hasId id (partsIn (partsOf parts) path) ≡ any (isIdOf id) (drop i (partsIn (partsOf parts) path)))
 
 abbrev μ-loop : tie.MeasureT-loop
 μ-loop parts id path count i₀ i = count - i
 
 abbrev path : tie.At-loop Inv-loop μ-loop → List PathPart
-path c = within (partsOf (c .before .before .before .args .parts .now)) (c .before .before .before .args .path)
+path c = partsIn (partsOf (c .before .before .before .args .parts .now)) (c .before .before .before .args .path)
 
 reach : (c : tie.In-loop Inv-loop μ-loop) → c .before .loop .i < length (path (c .before))
 reach c = omega arith

@@ -4,7 +4,7 @@ use mathlib.Core.Path.{_≡_}
 use mathlib.Core.Bool.{cond}
 use borrow.Author.Tests.{not-true, not-false}
 use native.Mathlib.Omega.{arith}
-use Rattle.table.specs.Table.{partsOf, within}
+use Rattle.table.specs.Table.{partsOf, partsIn}
 use Rattle.table.proofs.Ranges.{length-path}
 use Rattle.spec_util.specs.Walk.{underMin, walkGlobal}
 use Rattle.spec_util.specs.declared.types.Walk.{Walk}
@@ -16,7 +16,7 @@ use Rattle.spec_util.proofs.walk.walk_global.Tie as tie
 abbrev walked : tie.Start → Walk
 walked c =
     let a = c .args in
-    walkGlobal (within (partsOf (a .parts .now)) (a .path)) (a .master-id) (a .marker) (a .n) (a .least) (a .most)
+    walkGlobal (partsIn (partsOf (a .parts .now)) (a .path)) (a .master-id) (a .marker) (a .n) (a .least) (a .most)
 
 -- what the least bound decides, where the next part is the master's ID
 abbrev bounded : tie.Start → Walk

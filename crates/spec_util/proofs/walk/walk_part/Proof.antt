@@ -2,7 +2,7 @@
 use mathlib.Core.Path.{_≡_}
 use mathlib.Core.List.{List}
 use borrow.Author.Tests.{eq-eqb, ne-eqb, le-leb, lt-leb}
-use Rattle.table.specs.Table.{partsOf, within}
+use Rattle.table.specs.Table.{partsOf, partsIn}
 use Rattle.table.specs.declared.types.PathPart.{PathPart}
 use Rattle.spec_util.specs.Walk.{walkPart, walkAt}
 use Rattle.spec_util.specs.declared.types.Walk.{Walk}
@@ -11,7 +11,7 @@ use Rattle.spec_util.proofs.walk.walk_part.Statement.{statement}
 use Rattle.spec_util.proofs.walk.walk_part.Tie as tie
 
 abbrev path : tie.Start → List PathPart
-path c = within (partsOf (c .args .parts .now)) (c .args .path)
+path c = partsIn (partsOf (c .args .parts .now)) (c .args .path)
 
 abbrev walked : tie.Start → Walk
 walked c = walkPart (path c) (c .args .master-id) (c .args .marker) (c .args .counter)

@@ -5,20 +5,20 @@ use mathlib.Core.List.{List}
 use borrow.Author.Tests.{not-true, not-false}
 use native.Mathlib.Omega.{arith}
 use lib.ListN.{length, getD, drop}
-use Rattle.table.specs.Lists.{every}
-use Rattle.table.specs.Table.{Entry, partsOf, within, tableOf}
+use Rattle.basics.specs.Lists.{every}
+use Rattle.table.specs.Table.{Entry, partsOf, partsIn, tableOf}
 use Rattle.table.specs.Check.{masterOrGlobal, allMasters}
 use Rattle.table.specs.declared.types.PathPart.{PathPart}
 use Rattle.table.specs.declared.types.PathPart.the-variants.{Id}
-use Rattle.table.proofs.Loops.{every-fails, every-next, every-end}
+use Rattle.basics.proofs.Loops.{every-fails, every-next, every-end}
 use Rattle.table.proofs.check.all_masters.Statement.{statement}
 use Rattle.table.proofs.check.all_masters.Tie as tie
 
 abbrev Inv-loop : tie.InvT-loop
 Inv-loop entries parts path count i₀ i =
     (i ≤ count)
-    × (allMasters (tableOf entries parts) (within (partsOf parts) path)
-    ≡ every (masterOrGlobal (tableOf entries parts)) (drop i (within (partsOf parts) path)))
+    × (allMasters (tableOf entries parts) (partsIn (partsOf parts) path)
+    ≡ every (masterOrGlobal (tableOf entries parts)) (drop i (partsIn (partsOf parts) path)))
 
 abbrev μ-loop : tie.MeasureT-loop
 μ-loop entries parts path count i₀ i = count - i
@@ -27,7 +27,7 @@ abbrev table : tie.At-loop Inv-loop μ-loop → List Entry
 table c = tableOf (c .before .before .before .before .args .entries .now) (c .before .before .before .before .args .parts .now)
 
 abbrev path : tie.At-loop Inv-loop μ-loop → List PathPart
-path c = within (partsOf (c .before .before .before .before .args .parts .now)) (c .before .before .before .before .args .path)
+path c = partsIn (partsOf (c .before .before .before .before .args .parts .now)) (c .before .before .before .before .args .path)
 
 reach : (c : tie.In-loop Inv-loop μ-loop) → c .before .loop .i < length (path (c .before))
 reach c = omega arith

@@ -1,5 +1,5 @@
--- `table::check::first_broken`: what each rule's routine ensures is whether the entry keeps that rule; the first that it breaks is
--- answered. Assumes nothing.
+-- `table::check::first_broken`: what each rule's routine ensures is whether the entry keeps that rule; the first that
+-- it breaks is answered. Assumes nothing.
 use mathlib.Core.Path.{_≡_, sym, ap, _∙_}
 use mathlib.Core.Bool.{Bool, true, not}
 use mathlib.Core.List.{List}

@@ -6,23 +6,23 @@ use mathlib.Core.List.{List}
 use native.Mathlib.Omega.{arith}
 use borrow.Author.Needs.{needs}
 use lib.ListN.{length, getD, drop}
-use Rattle.table.specs.Lists.{every}
-use Rattle.table.specs.Table.{partsOf, within}
+use Rattle.basics.specs.Lists.{every}
+use Rattle.table.specs.Table.{partsOf, partsIn}
 use Rattle.table.specs.Check.{isId, onlyIds}
 use Rattle.table.specs.declared.types.PathPart.{PathPart}
 use Rattle.table.specs.declared.types.PathPart.the-variants.{Id}
-use Rattle.table.proofs.Loops.{every-fails, every-next, every-end}
+use Rattle.basics.proofs.Loops.{every-fails, every-next, every-end}
 use Rattle.table.proofs.check.only_ids.Statement.{statement}
 use Rattle.table.proofs.check.only_ids.Tie as tie
 
 abbrev Inv-loop : tie.InvT-loop
-Inv-loop parts path count i₀ i = (i ≤ count) × (onlyIds (within (partsOf parts) path) ≡ every isId (drop i (within (partsOf parts) path)))
+Inv-loop parts path count i₀ i = (i ≤ count) × (onlyIds (partsIn (partsOf parts) path) ≡ every isId (drop i (partsIn (partsOf parts) path)))
 
 abbrev μ-loop : tie.MeasureT-loop
 μ-loop parts path count i₀ i = count - i
 
 abbrev path : tie.At-loop Inv-loop μ-loop → List PathPart
-path c = within (partsOf (c .before .before .before .args .parts .now)) (c .before .before .before .args .path)
+path c = partsIn (partsOf (c .before .before .before .args .parts .now)) (c .before .before .before .args .path)
 
 reach : (c : tie.In-loop Inv-loop μ-loop) → c .before .loop .i < length (path (c .before))
 reach c = omega arith

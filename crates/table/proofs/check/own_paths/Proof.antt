@@ -1,4 +1,5 @@
--- `table::check::own_paths`. The invariant: each part passed is an ID whose own path is what stands before it. Assumes nothing.
+-- `table::check::own_paths`. The invariant: each part passed is an ID whose own path is what stands before it. Assumes
+-- nothing.
 use Prim.Native.Nat.{_-_, _≤_, _<_}
 use mathlib.Core.Path.{_≡_, refl, sym, _∙_}
 use mathlib.Core.List.{List, []}
@@ -6,7 +7,7 @@ use borrow.Author.Tests.{not-true, not-false}
 use native.Mathlib.Omega.{arith}
 use borrow.Author.Needs.{needs}
 use lib.ListN.{length, getD, take, drop}
-use Rattle.table.specs.Table.{Entry, partsOf, within, tableOf, pathOf, samePath}
+use Rattle.table.specs.Table.{Entry, partsOf, partsIn, tableOf, pathOf, samePath}
 use Rattle.table.specs.Check.{ownPaths}
 use Rattle.table.specs.declared.types.PathPart.{PathPart}
 use Rattle.table.specs.declared.types.PathPart.the-variants.{Id}
@@ -19,8 +20,8 @@ use Rattle.table.proofs.check.own_paths.Tie as tie
 abbrev Inv-loop : tie.InvT-loop
 Inv-loop entries parts path first count i₀ i =
     (i ≤ count)
-    × (ownPaths (tableOf entries parts) [] (within (partsOf parts) path)
-    ≡ ownPaths (tableOf entries parts) (take i (within (partsOf parts) path)) (drop i (within (partsOf parts) path)))
+    × (ownPaths (tableOf entries parts) [] (partsIn (partsOf parts) path)
+    ≡ ownPaths (tableOf entries parts) (take i (partsIn (partsOf parts) path)) (drop i (partsIn (partsOf parts) path)))
 
 abbrev μ-loop : tie.MeasureT-loop
 μ-loop entries parts path first count i₀ i = count - i
@@ -29,7 +30,7 @@ abbrev table : tie.At-loop Inv-loop μ-loop → List Entry
 table c = tableOf (c .before .before .before .before .args .entries .now) (c .before .before .before .before .args .parts .now)
 
 abbrev path : tie.At-loop Inv-loop μ-loop → List PathPart
-path c = within (partsOf (c .before .before .before .before .args .parts .now)) (c .before .before .before .before .args .path)
+path c = partsIn (partsOf (c .before .before .before .before .args .parts .now)) (c .before .before .before .before .args .path)
 
 reach : (c : tie.In-loop Inv-loop μ-loop) → c .before .loop .i < length (path (c .before))
 reach c = omega arith

@@ -1,4 +1,5 @@
--- `table::parts::path_length`: the least of the range's count and of what the parts have from its first on. Assumes nothing.
+-- `table::parts::path_length`: the least of the range's count and of what the parts have from its first on. Assumes
+-- nothing.
 use mathlib.Core.Path.{ap, sym, _∙_}
 use Rattle.table.specs.Table.{clipped}
 use Rattle.table.specs.declared.types.Path.{Path}

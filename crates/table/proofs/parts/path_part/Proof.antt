@@ -3,7 +3,7 @@ use Prim.Native.Nat.{_<_}
 use mathlib.Core.Path.{sym, _∙_}
 use native.Mathlib.Omega.{arith}
 use lib.ListN.{length, List·getD-eq-default}
-use Rattle.table.specs.Table.{partsOf, within}
+use Rattle.table.specs.Table.{partsOf, partsIn}
 use Rattle.table.specs.declared.types.PathPart.the-variants.{Id}
 use Rattle.table.proofs.Ranges.{length-path, within-at}
 use borrow.Author.Needs.{needs}
@@ -16,7 +16,7 @@ path-length-requires c κs = search needs
 returns : tie.Need-returns
 returns c =
     let a = c .before .before .before .args in
-    sym (List·getD-eq-default (within (partsOf (a .parts .now)) (a .path)) (Id 0) (rw (← c .before .path-length .ensures) (c .if1 .taken)))
+    sym (List·getD-eq-default (partsIn (partsOf (a .parts .now)) (a .path)) (Id 0) (rw (← c .before .path-length .ensures) (c .if1 .taken)))
 
 add-part-at : tie.Need-add-part-at
 add-part-at c =
@@ -30,7 +30,7 @@ returns-2 : tie.Need-returns-2
 returns-2 c =
     let t = c .before in
     let a = t .before .before .before .args in
-    let h : a .i < length (within (partsOf (a .parts .now)) (a .path)) = rw (← t .before .path-length .ensures) (t .if1 .left) in
+    let h : a .i < length (partsIn (partsOf (a .parts .now)) (a .path)) = rw (← t .before .path-length .ensures) (t .if1 .left) in
     c .part-at .ensures ∙ sym (within-at (partsOf (a .parts .now)) (a .path) (a .i) (Id 0) h)
 
 pub path-part-spec : {M : Type 1} → statement M

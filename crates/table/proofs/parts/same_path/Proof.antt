@@ -5,7 +5,7 @@ use mathlib.Core.List.{List}
 use borrow.Author.Tests.{not-true, not-false}
 use native.Mathlib.Omega.{arith}
 use lib.ListN.{length, getD, drop}
-use Rattle.table.specs.Table.{partsOf, within, samePart, samePath}
+use Rattle.table.specs.Table.{partsOf, partsIn, samePart, samePath}
 use Rattle.table.specs.declared.types.PathPart.{PathPart}
 use Rattle.table.specs.declared.types.PathPart.the-variants.{Id}
 use Rattle.table.proofs.Same.{same-lengths, same-fails, same-next, same-end}
@@ -15,8 +15,8 @@ use Rattle.table.proofs.parts.same_path.Tie as tie
 abbrev Inv-loop : tie.InvT-loop
 Inv-loop parts a b count i₀ i =
     (i ≤ count)
-    × (samePath (within (partsOf parts) a) (within (partsOf parts) b)
-    ≡ samePath (drop i (within (partsOf parts) a)) (drop i (within (partsOf parts) b)))
+    × (samePath (partsIn (partsOf parts) a) (partsIn (partsOf parts) b)
+    ≡ samePath (drop i (partsIn (partsOf parts) a)) (drop i (partsIn (partsOf parts) b)))
 
 abbrev μ-loop : tie.MeasureT-loop
 μ-loop parts a b count i₀ i = count - i
@@ -25,10 +25,10 @@ abbrev start : tie.At-loop Inv-loop μ-loop → tie.Start Inv-loop μ-loop
 start c = c .before .before .before .before .before .before .before
 
 abbrev path-a : tie.At-loop Inv-loop μ-loop → List PathPart
-path-a c = within (partsOf (start c .args .parts .now)) (start c .args .a)
+path-a c = partsIn (partsOf (start c .args .parts .now)) (start c .args .a)
 
 abbrev path-b : tie.At-loop Inv-loop μ-loop → List PathPart
-path-b c = within (partsOf (start c .args .parts .now)) (start c .args .b)
+path-b c = partsIn (partsOf (start c .args .parts .now)) (start c .args .b)
 
 reach-a : (c : tie.In-loop Inv-loop μ-loop) → c .before .loop .i < length (path-a (c .before))
 reach-a c = omega arith

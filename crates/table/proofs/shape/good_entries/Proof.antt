@@ -6,11 +6,11 @@ use mathlib.Core.Bool.{Bool, true}
 use borrow.Author.Tests.{not-true, not-false}
 use native.Mathlib.Omega.{arith}
 use lib.ListN.{length, getD, drop}
-use Rattle.table.specs.Lists.{every}
+use Rattle.basics.specs.Lists.{every}
 use Rattle.table.specs.Table.{fours}
 use Rattle.table.specs.Shape.{goodEntry, goodEntries}
 use Rattle.table.proofs.Words.{length-fours, fours-at}
-use Rattle.table.proofs.Loops.{every-fails, every-next, every-end}
+use Rattle.basics.proofs.Loops.{every-fails, every-next, every-end}
 use Rattle.table.proofs.shape.good_entries.Statement.{statement}
 use Rattle.table.proofs.shape.good_entries.Tie as tie
 
@@ -30,56 +30,20 @@ reach : (c : tie.In-loop Inv-loop μ-loop) → c .before .loop .i < length (test
 reach c = rw (length-fours (good (c .before .before .before .args .all)) (c .before .before .before .args .entries .now)) (omega arith)
 
 -- the test of the entry that was read
-read : (c : tie.After-good-entry Inv-loop μ-loop) → getD (tests (c .before .before .before .before .before)) (c .before .before .before .before .before .loop .i) true ≡ c .good-entry .result
-read c = fours-at (good (c .before .before .before .before .before .before .before .args .all)) _ _ true (omega arith) ∙ sym (c .good-entry .ensures)
+read : (c : tie.After-good-entry-at Inv-loop μ-loop) → getD (tests (c .before .before)) (c .before .before .loop .i) true ≡ c .good-entry-at .result
+read c = fours-at (good (c .before .before .before .before .args .all)) _ _ true (omega arith) ∙ sym (c .good-entry-at .ensures)
 
 loop-holds : tie.Need-loop-holds Inv-loop μ-loop
 unfolding goodEntries
 loop-holds c = (omega arith, refl)
 
-mul-good-entry : tie.Need-mul-good-entry Inv-loop μ-loop
-mul-good-entry c = omega arith
-
-add-good-entry : tie.Need-add-good-entry Inv-loop μ-loop
-add-good-entry c = omega arith
-
-mul-good-entry-2 : tie.Need-mul-good-entry-2 Inv-loop μ-loop
-mul-good-entry-2 c = omega arith
-
-shared-slice-read-good-entry : tie.Need-shared-slice-read-good-entry Inv-loop μ-loop
-shared-slice-read-good-entry c = omega arith
-
-mul-good-entry-3 : tie.Need-mul-good-entry-3 Inv-loop μ-loop
-mul-good-entry-3 c = omega arith
-
-add-good-entry-2 : tie.Need-add-good-entry-2 Inv-loop μ-loop
-add-good-entry-2 c = omega arith
-
-mul-good-entry-4 : tie.Need-mul-good-entry-4 Inv-loop μ-loop
-mul-good-entry-4 c = omega arith
-
-shared-slice-read-good-entry-2 : tie.Need-shared-slice-read-good-entry-2 Inv-loop μ-loop
-shared-slice-read-good-entry-2 c = omega arith
-
-mul-good-entry-5 : tie.Need-mul-good-entry-5 Inv-loop μ-loop
-mul-good-entry-5 c = omega arith
-
-add-good-entry-3 : tie.Need-add-good-entry-3 Inv-loop μ-loop
-add-good-entry-3 c = omega arith
-
-mul-good-entry-6 : tie.Need-mul-good-entry-6 Inv-loop μ-loop
-mul-good-entry-6 c = omega arith
-
-shared-slice-read-good-entry-3 : tie.Need-shared-slice-read-good-entry-3 Inv-loop μ-loop
-shared-slice-read-good-entry-3 c = omega arith
-
-good-entry-requires : tie.Need-good-entry-requires Inv-loop μ-loop
-good-entry-requires c κs = tt
+good-entry-at-requires : tie.Need-good-entry-at-requires Inv-loop μ-loop
+good-entry-at-requires c κs = omega arith
 
 returns : tie.Need-returns Inv-loop μ-loop
 returns c =
-    let n = read (c .before) ∙ not-true _ (c .if1 .taken) in
-    sym (c .before .before .before .before .before .before .loop .inv .1 ∙ every-fails _ _ true _ (reach (c .before .before .before .before .before)) n)
+    let t = c .before .before in
+    sym (t .before .loop .inv .1 ∙ every-fails _ _ true _ (reach t) (read (c .before) ∙ not-true _ (c .if1 .taken)))
 
 add-i : tie.Need-add-i Inv-loop μ-loop
 add-i c = omega arith
@@ -89,13 +53,12 @@ loop-less c = omega arith
 
 loop-again : tie.Need-loop-again Inv-loop μ-loop
 loop-again c =
-    let y = read (c .before) ∙ not-false _ (c .if1 .left) in
-    (omega arith, c .before .before .before .before .before .before .loop .inv .1 ∙ every-next _ _ true _ (reach (c .before .before .before .before .before)) y)
+    let t = c .before .before in
+    (omega arith, t .before .loop .inv .1 ∙ every-next _ _ true _ (reach t) (read (c .before) ∙ not-false _ (c .if1 .left)))
 
 returns-2 : tie.Need-returns-2 Inv-loop μ-loop
 returns-2 c =
-    let a = c .before .before .before .args in
-    let h : length (tests (c .before)) ≤ c .before .loop .i = rw (length-fours (good (a .all)) (a .entries .now)) (omega arith) in
+    let h : length (tests (c .before)) ≤ c .before .loop .i = rw (length-fours (good (c .before .before .before .args .all)) (c .before .before .before .args .entries .now)) (omega arith) in
     sym (c .before .loop .inv .1 ∙ every-end _ _ _ h)
 
 pub good-entries-spec : {M : Type 1} → statement M
@@ -105,19 +68,7 @@ good-entries-spec =
     Inv-loop
     μ-loop
     loop-holds
-    mul-good-entry
-    add-good-entry
-    mul-good-entry-2
-    shared-slice-read-good-entry
-    mul-good-entry-3
-    add-good-entry-2
-    mul-good-entry-4
-    shared-slice-read-good-entry-2
-    mul-good-entry-5
-    add-good-entry-3
-    mul-good-entry-6
-    shared-slice-read-good-entry-3
-    good-entry-requires
+    good-entry-at-requires
     returns
     add-i
     loop-less

@@ -1,4 +1,5 @@
--- `table::shape::good_entry`: the sum of the first part and the number is within the parts where it would not wrap. Assumes nothing.
+-- `table::shape::good_entry`: the sum of the first part and the number is within the parts where it would not wrap.
+-- Assumes nothing.
 use Prim.Native.Nat.{ℕ, _+_, _-_, _≤_, _<_}
 use mathlib.Core.Path.{_≡_, sym, _∙_}
 use borrow.Author.Tests.{le-leb, lt-leb}

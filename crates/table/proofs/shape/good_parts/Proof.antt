@@ -6,11 +6,11 @@ use mathlib.Core.Bool.{Bool, true}
 use borrow.Author.Tests.{not-true, not-false}
 use native.Mathlib.Omega.{arith}
 use lib.ListN.{length, getD, drop}
-use Rattle.table.specs.Lists.{every}
+use Rattle.basics.specs.Lists.{every}
 use Rattle.table.specs.Table.{threes}
 use Rattle.table.specs.Shape.{goodPart, goodParts}
 use Rattle.table.proofs.Words.{length-threes, threes-at}
-use Rattle.table.proofs.Loops.{every-fails, every-next, every-end}
+use Rattle.basics.proofs.Loops.{every-fails, every-next, every-end}
 use Rattle.table.proofs.shape.good_parts.Statement.{statement}
 use Rattle.table.proofs.shape.good_parts.Tie as tie
 
@@ -27,53 +27,20 @@ reach : (c : tie.In-loop Inv-loop μ-loop) → c .before .loop .i < length (test
 reach c = rw (length-threes goodPart (c .before .before .before .args .parts .now)) (omega arith)
 
 -- the test of the part that was read
-read : (c : tie.After-good-part Inv-loop μ-loop) → getD (tests (c .before .before .before .before .before)) (c .before .before .before .before .before .loop .i) true ≡ c .good-part .result
-read c = threes-at goodPart _ _ true (omega arith) ∙ sym (c .good-part .ensures)
+read : (c : tie.After-good-part-at Inv-loop μ-loop) → getD (tests (c .before .before)) (c .before .before .loop .i) true ≡ c .good-part-at .result
+read c = threes-at goodPart _ _ true (omega arith) ∙ sym (c .good-part-at .ensures)
 
 loop-holds : tie.Need-loop-holds Inv-loop μ-loop
 unfolding goodParts
 loop-holds c = (omega arith, refl)
 
-mul-good-part : tie.Need-mul-good-part Inv-loop μ-loop
-mul-good-part c = omega arith
-
-mul-good-part-2 : tie.Need-mul-good-part-2 Inv-loop μ-loop
-mul-good-part-2 c = omega arith
-
-shared-slice-read-good-part : tie.Need-shared-slice-read-good-part Inv-loop μ-loop
-shared-slice-read-good-part c = omega arith
-
-mul-good-part-3 : tie.Need-mul-good-part-3 Inv-loop μ-loop
-mul-good-part-3 c = omega arith
-
-add-good-part : tie.Need-add-good-part Inv-loop μ-loop
-add-good-part c = omega arith
-
-mul-good-part-4 : tie.Need-mul-good-part-4 Inv-loop μ-loop
-mul-good-part-4 c = omega arith
-
-shared-slice-read-good-part-2 : tie.Need-shared-slice-read-good-part-2 Inv-loop μ-loop
-shared-slice-read-good-part-2 c = omega arith
-
-mul-good-part-5 : tie.Need-mul-good-part-5 Inv-loop μ-loop
-mul-good-part-5 c = omega arith
-
-add-good-part-2 : tie.Need-add-good-part-2 Inv-loop μ-loop
-add-good-part-2 c = omega arith
-
-mul-good-part-6 : tie.Need-mul-good-part-6 Inv-loop μ-loop
-mul-good-part-6 c = omega arith
-
-shared-slice-read-good-part-3 : tie.Need-shared-slice-read-good-part-3 Inv-loop μ-loop
-shared-slice-read-good-part-3 c = omega arith
-
-good-part-requires : tie.Need-good-part-requires Inv-loop μ-loop
-good-part-requires c κs = tt
+good-part-at-requires : tie.Need-good-part-at-requires Inv-loop μ-loop
+good-part-at-requires c κs = omega arith
 
 returns : tie.Need-returns Inv-loop μ-loop
 returns c =
-    let n = read (c .before) ∙ not-true _ (c .if1 .taken) in
-    sym (c .before .before .before .before .before .before .loop .inv .1 ∙ every-fails _ _ true _ (reach (c .before .before .before .before .before)) n)
+    let t = c .before .before in
+    sym (t .before .loop .inv .1 ∙ every-fails _ _ true _ (reach t) (read (c .before) ∙ not-true _ (c .if1 .taken)))
 
 add-i : tie.Need-add-i Inv-loop μ-loop
 add-i c = omega arith
@@ -83,8 +50,8 @@ loop-less c = omega arith
 
 loop-again : tie.Need-loop-again Inv-loop μ-loop
 loop-again c =
-    let y = read (c .before) ∙ not-false _ (c .if1 .left) in
-    (omega arith, c .before .before .before .before .before .before .loop .inv .1 ∙ every-next _ _ true _ (reach (c .before .before .before .before .before)) y)
+    let t = c .before .before in
+    (omega arith, t .before .loop .inv .1 ∙ every-next _ _ true _ (reach t) (read (c .before) ∙ not-false _ (c .if1 .left)))
 
 returns-2 : tie.Need-returns-2 Inv-loop μ-loop
 returns-2 c =
@@ -98,18 +65,7 @@ good-parts-spec =
     Inv-loop
     μ-loop
     loop-holds
-    mul-good-part
-    mul-good-part-2
-    shared-slice-read-good-part
-    mul-good-part-3
-    add-good-part
-    mul-good-part-4
-    shared-slice-read-good-part-2
-    mul-good-part-5
-    add-good-part-2
-    mul-good-part-6
-    shared-slice-read-good-part-3
-    good-part-requires
+    good-part-at-requires
     returns
     add-i
     loop-less

@@ -1,43 +1,56 @@
--- `tag_decoder::calls::decode`: what was seen decides, the decision fits the record, the note is made, and the record moves part by part. Assumes nothing.
+-- `tag_decoder::calls::decode`: what was seen decides, the decision fits the record, the note is made, and the record
+-- moves part by part. Assumes nothing.
 use Prim.Native.Nat.{_+_, _^_, _≤_, _<_}
 use mathlib.Core.Path.{_≡_, refl, _∙_}
 use mathlib.Core.Logic.{⊎-elim}
 use native.Mathlib.Omega.{arith}
 use lib.ListN.{length}
-use Rattle.decoder_state.specs.State.{withOpen, withNotes, opened}
-use Rattle.decoder_state.specs.OneCall.{decide, noted, gives, move, apply, decode}
-use Rattle.decoder_state.specs.declared.types.Action.{Action}
-use Rattle.decoder_state.specs.declared.types.TagDecoder.{TagDecoder}
-use Rattle.decoder_decide.proofs.Looking.{sound-look}
-use Rattle.tag_decoder.specs.Fits.{Fits}
-use Rattle.tag_decoder.proofs.Fitting.{FitsAll, decide-fits, note-settles, hands-out, closes, starts, passes-on}
-use Rattle.tag_decoder.proofs.Parts.{moved-parts}
+use Rattle.decoder_rules.specs.Record.{withOpen, withNotes, opened}
+use Rattle.decoder_rules.specs.OneCall.{noted}
+use Rattle.decoder_rules.specs.Deciding.{decide}
+use Rattle.decoder_rules.specs.Moving.{gives, move, apply, decode}
+use Rattle.decoder_rules.specs.declared.types.Action.{Action}
+use Rattle.decoder_rules.specs.declared.types.TagDecoder.{TagDecoder}
+use Rattle.decoder_decide.proofs.SettledView.{sound-summary}
+use Rattle.decoder_move.specs.Applies.{ActionApplies, DecisionApplies}
+use Rattle.decoder_move.proofs.DecisionApplies.{decide-applies, note-settles, noted-long, hands-out, closes, starts, passes-on}
+use Rattle.decoder_move.proofs.MoveParts.{moved-parts}
+use Rattle.basics.proofs.ArrayOf32.{length-of-map}
 use borrow.Author.Needs.{needs}
 use Rattle.tag_decoder.proofs.calls.decode.Statement.{statement}
 use Rattle.tag_decoder.proofs.calls.decode.Tie as tie
 
-abbrev start : tie.After-look-at → tie.Start
+abbrev start : tie.After-summarize → tie.Start
 start c = c .before .before .before .before .before .before
 
 -- what was seen decides for the record
 decided : (c : tie.After-decide) → let a = start (c .before .before .before .before .before) .args in c .decide .result ≡ decide (a .entries .now) (a .parts .now) (a .t3) (a .input .now)
-decided c = let k = c .before .before .before .before .before in c .decide .ensures (start k .args .t3) (k .look-at .ensures .0) (k .look-at .ensures .1)
+decided c = let k = c .before .before .before .before .before in c .decide .ensures (start k .args .t3) (k .summarize .ensures .0) (k .summarize .ensures .1)
 
 -- what was decided fits
-fits : (c : tie.After-decide) → let a = start (c .before .before .before .before .before) .args in FitsAll (a .parts .now) (a .t3) (length (a .input .now)) (c .decide .result)
+fits : (c : tie.After-decide) → let a = start (c .before .before .before .before .before) .args in DecisionApplies (a .parts .now) (a .t3) (length (a .input .now)) (c .decide .result)
 fits c =
     let k = c .before .before .before .before .before in
     let a = start k .args in
-    rw (decided c) (decide-fits (a .entries .now) (a .parts .now) (a .t3) (a .input .now) (λ i. k .before .before .before .shared-slice-known3 .given i .fits))
+    rw (decided c) (decide-applies (a .entries .now) (a .parts .now) (a .t3) (a .input .now) (λ i. k .before .before .before .shared-slice-known3 .given i .fits))
 
 -- the record has the note, whichever it is
 has-note : (c : tie.At-match-came) → let a = start (c .before .before .before .before .before .before) .args in c .match .d ≡ noted (a .parts .now) (a .t3) (c .before .decide .result .note)
 unfolding noted
 has-note c = ⊎-elim (λ w. rw (w .1 .given .1) (w .4 ∙ w .3 .ensures)) (λ w. rw (w .1 .given .1) (w .2)) (c .match .came)
 
+-- and its array has its places
+long : (c : tie.Start) → length (c .args .t3 .«open») ≡ 32
+long c = search length-of-map
+
+long-noted : (c : tie.At-match-came) → length (c .match .d .«open») ≡ 32
+long-noted c =
+    let a = start (c .before .before .before .before .before .before) in
+    rw (has-note c) (noted-long (a .args .parts .now) (a .args .t3) (c .before .decide .result .note) (fits (c .before) .note) (long a))
+
 -- so the action fits it
 action-fits : (c : tie.After-taken-by) → let m = c .before .before .before .before .before in
-    Fits (m .match .d) (length (start (m .before .before .before .before .before .before) .args .input .now)) (m .before .decide .result .action)
+    ActionApplies (m .match .d) (length (start (m .before .before .before .before .before .before) .args .input .now)) (m .before .decide .result .action)
 action-fits c =
     let m = c .before .before .before .before .before in
     rw (has-note m) (fits (m .before) .action)
@@ -46,14 +59,14 @@ action-fits c =
 room : (c : tie.After-action2) → let d = c .before .before .before .before .before .before .before .match .d in (d .«open_count» < 32) × (d .position + c .action2 .given .0 .1 .1 .0 ≤ 2 ^ 62)
 room c = starts _ _ _ _ _ (rw (c .action2 .given .1) at (action-fits (c .before .before)))
 
-slice-aggregate-look-at : tie.Need-slice-aggregate-look-at
-slice-aggregate-look-at c = search needs
+slice-aggregate-summarize : tie.Need-slice-aggregate-summarize
+slice-aggregate-summarize c = search needs
 
-slice-aggregate-look-at-2 : tie.Need-slice-aggregate-look-at-2
-slice-aggregate-look-at-2 c = search needs
+slice-aggregate-summarize-2 : tie.Need-slice-aggregate-summarize-2
+slice-aggregate-summarize-2 c = search needs
 
-look-at-requires : tie.Need-look-at-requires
-look-at-requires c κs = search needs
+summarize-requires : tie.Need-summarize-requires
+summarize-requires c κs = search needs
 
 slice-aggregate-decide : tie.Need-slice-aggregate-decide
 slice-aggregate-decide c = search needs
@@ -64,9 +77,9 @@ slice-aggregate-decide-2 c = search needs
 decide-requires : tie.Need-decide-requires
 decide-requires c κs =
     let k = c .before .before .before .before in
-    let i : length (k .look-at .last .1 .0) ≡ 32 = search needs in
-    let j : length (k .look-at .last .1 .1 .0) ≡ 32 = search needs in
-    (i, j, sound-look _ (k .look-at .ensures .0))
+    let i : length (k .summarize .last .1 .0) ≡ 32 = search needs in
+    let j : length (k .summarize .last .1 .1 .0) ≡ 32 = search needs in
+    (i, j, sound-summary _ (k .summarize .ensures .0))
 
 enum-known-note : tie.Need-enum-known-note
 enum-known-note c = search needs
@@ -77,8 +90,8 @@ settled-to-requires c κs = note-settles _ _ (rw (c .before .note .given .1) at 
 enum-told : tie.Need-enum-told
 enum-told c = search needs
 
-top-of-requires : tie.Need-top-of-requires
-top-of-requires c κs = search needs
+top-place-requires : tie.Need-top-place-requires
+top-place-requires c κs = search needs
 
 element-copy-out-answer-to : tie.Need-element-copy-out-answer-to
 element-copy-out-answer-to c = search needs
@@ -119,8 +132,8 @@ closed-to-requires c κs = closes _ _ _ (rw (c .before .action .given .1) at (ac
 enum-known-action-2 : tie.Need-enum-known-action-2
 enum-known-action-2 c = search needs
 
-open-tag-requires : tie.Need-open-tag-requires
-open-tag-requires c κs = let s = room (c .before) in (omega arith, omega arith)
+master-at-requires : tie.Need-master-at-requires
+master-at-requires c κs = let s = room (c .before) in (omega arith, omega arith)
 
 mul-t47 : tie.Need-mul-t47
 mul-t47 c = omega (arith, room (c .before .before))
@@ -148,7 +161,7 @@ ends c a s e h =
     let m = c .before .before .before .before .before in
     let top = c .before .before .before .before in
     rw (c .before .answer-to .ensures, c .taken-by .ensures, h, ← e)
-    (moved-parts (m .match .d) _ (top .top-of .result) _ (action-fits c) (λ h. omega (arith, top .top-of .ensures)) ∙ rw (has-note m, decided (m .before)))
+    (moved-parts (m .match .d) _ (top .top-place .result) _ (long-noted m) (action-fits c) (λ h. omega (arith, top .top-place .ensures)) ∙ rw (has-note m, decided (m .before)))
 
 returns : tie.Need-returns
 unfolding move
@@ -172,7 +185,7 @@ returns-5 c = ends (c .before .before .before .before) _ _ (c .before .before .a
 
 returns-6 : tie.Need-returns-6
 unfolding move opened withOpen withNotes
-returns-6 c = ends (c .before .before .before .before) _ _ (c .before .before .action2 .given .1) (rw (c .open-tag .ensures))
+returns-6 c = ends (c .before .before .before .before) _ _ (c .before .before .action2 .given .1) (rw (c .master-at .ensures))
 
 returns-7 : tie.Need-returns-7
 unfolding move withNotes
@@ -182,16 +195,16 @@ pub decode-spec : {M : Type 1} → statement M
 decode-spec =
     tie.close
     (tie.spec
-    slice-aggregate-look-at
-    slice-aggregate-look-at-2
-    look-at-requires
+    slice-aggregate-summarize
+    slice-aggregate-summarize-2
+    summarize-requires
     slice-aggregate-decide
     slice-aggregate-decide-2
     decide-requires
     enum-known-note
     settled-to-requires
     enum-told
-    top-of-requires
+    top-place-requires
     element-copy-out-answer-to
     mul-answer-to
     element-copy-out-answer-to-2
@@ -205,7 +218,7 @@ decode-spec =
     enum-known-action
     closed-to-requires
     enum-known-action-2
-    open-tag-requires
+    master-at-requires
     mul-t47
     element-set-from-d
     add-d

@@ -1,6 +1,7 @@
 -- `tag_decoder::calls::decode_eof`, by the call's answer. Assumes nothing.
-use mathlib.Core.Path.{_≡_, sym, _∙_}
-use Rattle.tag_decoder.proofs.Fitting.{after-more, after-finish, eof-of}
+use mathlib.Core.Path.{ap, sym, _∙_}
+use Rattle.decoder_rules.proofs.EndExits.{isQuiet}
+use Rattle.decoder_move.proofs.DecisionApplies.{after-quiet, eof-of}
 use borrow.Author.Needs.{needs}
 use Rattle.tag_decoder.proofs.calls.decode_eof.Statement.{statement}
 use Rattle.tag_decoder.proofs.calls.decode_eof.Tie as tie
@@ -18,7 +19,7 @@ end-of-input-requires : tie.Need-end-of-input-requires
 end-of-input-requires c κs =
     let r = c .before .before .before in
     let a = r .before .before .before .before .args in
-    let g = after-more (a .entries .now) (a .parts .now) (a .d) (a .input .now) (λ i. r .before .shared-slice-known3 .given i .fits) _ (r .decode .ensures) (c .enum-told2 .given .1) in
+    let g = after-quiet (a .entries .now) (a .parts .now) (a .d) (a .input .now) (λ i. r .before .shared-slice-known3 .given i .fits) _ (r .decode .ensures) (ap isQuiet (c .enum-told2 .given .1)) in
     (g .few, g .near)
 
 enum-told-3 : tie.Need-enum-told-3
@@ -28,7 +29,7 @@ end-of-input-requires-2 : tie.Need-end-of-input-requires-2
 end-of-input-requires-2 c κs =
     let r = c .before .before .before in
     let a = r .before .before .before .before .args in
-    let g = after-finish (a .entries .now) (a .parts .now) (a .d) (a .input .now) (λ i. r .before .shared-slice-known3 .given i .fits) _ (r .decode .ensures) (c .enum-told3 .given .1) in
+    let g = after-quiet (a .entries .now) (a .parts .now) (a .d) (a .input .now) (λ i. r .before .shared-slice-known3 .given i .fits) _ (r .decode .ensures) (ap isQuiet (c .enum-told3 .given .1)) in
     (g .few, g .near)
 
 enum-told-4 : tie.Need-enum-told-4

@@ -1,14 +1,14 @@
--- `tag_decoder::recovery::end_of_search`. The invariant: the search from place i on, with the record as it is there, ends where the whole search
--- does. Assumes nothing.
-use Prim.Native.Nat.{_+_, _-_}
+-- `tag_decoder::recovery::end_of_search`. The invariant: the search from place i on, with the record as it is there,
+-- ends where the whole search does. Assumes nothing.
+use Prim.Native.Nat.{_-_}
 use mathlib.Core.Path.{_≡_, ap, _∙_}
 use native.Mathlib.Omega.{arith}
-use lib.ListN.{length, drop}
+use lib.ListN.{drop}
 use Rattle.table.specs.Table.{tableOf}
 use Rattle.tag_parse.proofs.Cases.{rest-is}
-use Rattle.decoder_state.proofs.Good.{good-state}
-use Rattle.tag_decoder.specs.Recovery.{at, placeAt}
-use Rattle.tag_decoder.specs.declared.recovery.Place.the-variants.{Stop}
+use Rattle.decoder_rules.proofs.GoodState.{good-state}
+use Rattle.decoder_rules.specs.Recovery.{at, placeAt}
+use Rattle.decoder_rules.specs.declared.types.Place.the-variants.{Stop}
 use Rattle.tag_decoder.proofs.Recovering.{good-record, Searched, searched-none, searched-all, searched-stop, searched-found, searched-on}
 use borrow.Author.Needs.{needs}
 use Rattle.tag_decoder.proofs.recovery.end_of_search.Statement.{statement}

@@ -5,13 +5,13 @@ use mathlib.Core.Path.{_≡_, refl}
 use denote.Enum.Declared.{tagOf}
 use types.Run.{OneOf, miss}
 use native.Mathlib.Omega.{arith}
-use Rattle.decoder_state.proofs.Good.{good-state}
-use Rattle.decoder_state.specs.declared.types.Search.the-variants.{NotFound}
-use Rattle.decoder_state.specs.declared.types.TagDecoder.{TagDecoder}
-use Rattle.tag_decoder.specs.Recovery.{endingAt, ending}
-use Rattle.tag_decoder.specs.declared.recovery.Place.{Place}
-use Rattle.tag_decoder.specs.declared.recovery.Place.the-variants.{Stop, Found, On}
-use Rattle.tag_decoder.proofs.recovery.Place.{the-type}
+use Rattle.decoder_rules.proofs.GoodState.{good-state}
+use Rattle.decoder_rules.specs.declared.types.Search.the-variants.{NotFound}
+use Rattle.decoder_rules.specs.declared.types.TagDecoder.{TagDecoder}
+use Rattle.decoder_rules.specs.Recovery.{endingAt, ending}
+use Rattle.decoder_rules.specs.declared.types.Place.{Place}
+use Rattle.decoder_rules.specs.declared.types.Place.the-variants.{Stop, Found, On}
+use Rattle.decoder_rules.proofs.types.Place.{the-type}
 use borrow.Author.Needs.{needs}
 use Rattle.tag_decoder.proofs.recovery.ending.Statement.{statement}
 use Rattle.tag_decoder.proofs.recovery.ending.Tie as tie
@@ -32,14 +32,14 @@ sub-passed c = search needs
 enum-told : tie.Need-enum-told
 enum-told c = search needs
 
-grown-requires : tie.Need-grown-requires
-grown-requires c κs =
+with-sizes-grown-requires : tie.Need-with-sizes-grown-requires
+with-sizes-grown-requires c κs =
     let g = good-state _ (c .before .before .before .before .pre .0) in
     (g .open-count, omega (arith, g .place), g .place, g .masters)
 
 returns : tie.Need-returns
 unfolding ending
-returns c = rw (c .before .enum-told .given .1, c .grown .ensures)
+returns c = rw (c .before .enum-told .given .1, c .with-sizes-grown .ensures)
 
 returns-2 : tie.Need-returns-2
 unfolding ending
@@ -48,4 +48,4 @@ returns-2 c =
     other (a .start) (a .p .place) (a .p .state) (c .match .keys2)
 
 pub ending-spec : {M : Type 1} → statement M
-ending-spec = tie.close (tie.spec sub-passed enum-told grown-requires returns returns-2)
+ending-spec = tie.close (tie.spec sub-passed enum-told with-sizes-grown-requires returns returns-2)

@@ -1,6 +1,5 @@
 -- `tag_decoder::recovery::judged_at`, by the header's check. Assumes nothing.
-use mathlib.Core.Path.{_≡_}
-use Rattle.tag_decoder.specs.Recovery.{judgedAt}
+use Rattle.decoder_rules.specs.Recovery.{judgedAt}
 use borrow.Author.Needs.{needs}
 use Rattle.tag_decoder.proofs.recovery.judged_at.Statement.{statement}
 use Rattle.tag_decoder.proofs.recovery.judged_at.Tie as tie

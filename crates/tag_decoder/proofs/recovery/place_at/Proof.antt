@@ -3,8 +3,8 @@ use mathlib.Core.Path.{_≡_, sym, _∙_}
 use Rattle.table.specs.Table.{tableOf}
 use Rattle.tag_parse.specs.Header.{readHeader}
 use Rattle.tag_parse.specs.declared.types.ReadHeader.the-variants.{Header}
-use Rattle.decoder_decide.proofs.Judged.{good-header}
-use Rattle.tag_decoder.specs.Recovery.{placeAt}
+use Rattle.decoder_decide.proofs.GoodHeaders.{good-header}
+use Rattle.decoder_rules.specs.Recovery.{placeAt}
 use borrow.Author.Needs.{needs}
 use Rattle.tag_decoder.proofs.recovery.place_at.Statement.{statement}
 use Rattle.tag_decoder.proofs.recovery.place_at.Tie as tie

@@ -1,7 +1,7 @@
 -- `tag_decoder::recovery::step_on`. Assumes nothing.
-use mathlib.Core.Path.{_≡_, ap}
-use Rattle.tag_decoder.specs.Recovery.{at}
-use Rattle.tag_decoder.specs.declared.recovery.Place.the-variants.{On}
+use mathlib.Core.Path.{ap}
+use Rattle.decoder_rules.specs.Recovery.{at}
+use Rattle.decoder_rules.specs.declared.types.Place.the-variants.{On}
 use borrow.Author.Needs.{needs}
 use Rattle.tag_decoder.proofs.recovery.step_on.Statement.{statement}
 use Rattle.tag_decoder.proofs.recovery.step_on.Tie as tie

@@ -1,22 +1,21 @@
 -- `tag_decoder::recovery::try_recover`: the first refusals, or the search. Assumes nothing.
 use mathlib.Core.Path.{_≡_, sym, _∙_, subst}
-use Rattle.decoder_state.specs.OneCall.{tryRecover}
-use Rattle.decoder_state.proofs.Good.{is-good-state}
+use Rattle.decoder_rules.specs.Recovery.{tryRecover}
+use Rattle.decoder_rules.proofs.GoodState.{is-good-state, Passed1, passed12}
 use lib.ListN.{length}
-use Rattle.decoder_state.specs.declared.types.Check.the-variants.{Pass}
-use Rattle.decoder_decide.proofs.Judged.{Passed1, passed12}
-use Rattle.tag_decoder.proofs.Recovering.{EndWell, end-well, scan-ends}
+use Rattle.decoder_rules.specs.declared.types.Check.the-variants.{Pass}
+use Rattle.tag_decoder.proofs.Recovering.{EndWell, end-well}
 use borrow.Author.Needs.{needs}
 use Rattle.tag_decoder.proofs.recovery.try_recover.Statement.{statement}
 use Rattle.tag_decoder.proofs.recovery.try_recover.Tie as tie
 
 -- refusals 10, 11 and 12 did not come
-passed : (c : tie.After-refused12) → let a = c .before .before .before .before .args in
-    c .refused12 .result ≡ Pass → Passed1 (a .entries .now) (a .parts .now) (a .d) (length (a .input .now))
-passed c e = passed12 _ _ _ _ (sym (c .refused12 .ensures) ∙ e)
+passed : (c : tie.After-check-record-10-to-12) → let a = c .before .before .before .before .args in
+    c .check-record-10-to-12 .result ≡ Pass → Passed1 (a .entries .now) (a .parts .now) (a .d) (length (a .input .now))
+passed c e = passed12 _ _ _ _ (sym (c .check-record-10-to-12 .ensures) ∙ e)
 
-refused12-requires : tie.Need-refused12-requires
-refused12-requires c κs = search needs
+check-record-10-to-12-requires : tie.Need-check-record-10-to-12-requires
+check-record-10-to-12-requires c κs = search needs
 
 enum-told : tie.Need-enum-told
 enum-told c = search needs
@@ -41,17 +40,17 @@ returns : tie.Need-returns
 unfolding tryRecover
 returns c =
     let r = c .before .before .before .before in
-    c .ending .ensures ∙ rw (c .before .end-of-search .ensures) (sym (rw (← r .refused12 .ensures, c .before .before .enum-told .given .1) (scan-ends _ _ _ _ _)))
+    c .ending .ensures ∙ rw (c .before .end-of-search .ensures) (rw (← r .check-record-10-to-12 .ensures, c .before .before .enum-told .given .1))
 
 returns-2 : tie.Need-returns-2
 unfolding tryRecover
-returns-2 c = rw (← c .before .before .before .refused12 .ensures, c .before .error .given .1)
+returns-2 c = rw (← c .before .before .before .check-record-10-to-12 .ensures, c .before .error .given .1)
 
 pub try-recover-spec : {M : Type 1} → statement M
 try-recover-spec =
     tie.close
     (tie.spec
-    refused12-requires
+    check-record-10-to-12-requires
     enum-told
     end-of-search-requires
     ending-requires

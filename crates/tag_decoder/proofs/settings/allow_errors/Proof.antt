@@ -1,6 +1,6 @@
 -- `tag_decoder::settings::allow_errors`: three fields set. Assumes nothing.
 use mathlib.Core.Path.{refl}
-use Rattle.tag_decoder.specs.Settings.{withSettings}
+use Rattle.decoder_rules.specs.Record.{withSettings}
 use Rattle.tag_decoder.proofs.settings.allow_errors.Statement.{statement}
 use Rattle.tag_decoder.proofs.settings.allow_errors.Tie as tie
 

@@ -1,6 +1,6 @@
 -- `tag_decoder::settings::set_max_allowable_tag_size`: two fields set. Assumes nothing.
-use mathlib.Core.Path.{refl}
-use Rattle.tag_decoder.specs.Settings.{withSettings}
+use mathlib.Core.Logic.{⊎-elim}
+use Rattle.decoder_rules.specs.Record.{withSettings}
 use borrow.Author.Needs.{needs}
 use Rattle.tag_decoder.proofs.settings.set_max_allowable_tag_size.Statement.{statement}
 use Rattle.tag_decoder.proofs.settings.set_max_allowable_tag_size.Tie as tie
@@ -13,11 +13,7 @@ enum-known-size c = search needs
 
 returns : tie.Need-returns
 unfolding withSettings
-returns c = rw (c .enum-told .given .1)
-
-returns-2 : tie.Need-returns-2
-unfolding withSettings
-returns-2 c = rw (c .before .size .given .1)
+returns c = ⊎-elim (λ w. rw (w .1 .given .1, w .2)) (λ w. rw (w .1 .given .1, w .3)) (c .match .came)
 
 pub set-max-allowable-tag-size-spec : {M : Type 1} → statement M
-set-max-allowable-tag-size-spec = tie.close (tie.spec enum-told enum-known-size returns returns-2)
+set-max-allowable-tag-size-spec = tie.close (tie.spec enum-told enum-known-size returns)

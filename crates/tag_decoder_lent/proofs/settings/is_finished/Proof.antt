@@ -1,4 +1,5 @@
--- `tag_decoder_lent::settings::is_finished` meets its contract: the walk that the lent questions share (LentLook.antt), at this question's code.
+-- `tag_decoder_lent::settings::is_finished` meets its contract: the walk that the lent questions share (LentLook.antt),
+-- at this question's code.
 -- Assumes nothing.
 use mathlib.Core.Bool.{Bool}
 use mir.Syntax.{tyBool}
@@ -8,9 +9,9 @@ use mathlib.Core.List.{[], _∷_}
 use contract.Running.{givenOf, tables, tablesOf}
 use denote.Triple.Spec.{tripleOf}
 use denote.Triple.Table.{entered, cited}
-use Rattle.decoder_state.specs.declared.types.TagDecoder.{TagDecoder}
-use Rattle.decoder_state.proofs.types.TagDecoder as T
-use Rattle.tag_decoder.specs.Settings.{isFinished}
+use Rattle.decoder_rules.specs.declared.types.TagDecoder.{TagDecoder}
+use Rattle.decoder_rules.proofs.types.TagDecoder as T
+use Rattle.decoder_rules.specs.Settings.{isFinished}
 use Rattle.tag_decoder.proofs.settings.is_finished.Symbol as tell-def
 use Rattle.tag_decoder.proofs.settings.is_finished.Met as tell-thm
 use Rattle.tag_decoder_lent.proofs.LentSteps.{Parted}

@@ -5,10 +5,10 @@ use mathlib.Core.List.{List}
 use native.Mathlib.Omega.{arith}
 use lib.ListN.{length, drop}
 use Rattle.tools.specs.declared.vint.ReadVint.the-variants.{Vint}
-use Rattle.tools.specs.Vint.{readVint}
+use Rattle.tools.specs.Vint.{Front, readVint}
 use Rattle.table.specs.Table.{Entry, specFor}
 use Rattle.tag_parse.specs.Header.{sized, readHeader}
-use Rattle.tools.proofs.Rfc8794.{Front, read-sound}
+use Rattle.tools.proofs.Rfc8794.{read-sound}
 use Rattle.tag_parse.proofs.Cases.{IdFront, id-front, octets-drop, rest-is, header-none, header-sized}
 use borrow.Author.Needs.{needs}
 use Rattle.tag_parse.proofs.header.read_header.Statement.{statement}

@@ -1,4 +1,5 @@
--- `tools::bytes::be_number`. The invariant: value is the number of the i bytes passed, below 2 ^ (8 i). Assumes nothing.
+-- `tools::bytes::be_number`. The invariant: value is the number of the i bytes passed, below 2 ^ (8 i). Assumes
+-- nothing.
 use Prim.Native.Nat.{ℕ, _+_, _-_, _*_, _^_, _≤_, _<_}
 use mathlib.Core.Path.{_≡_, refl, _∙_}
 use native.Mathlib.Omega.{arith}

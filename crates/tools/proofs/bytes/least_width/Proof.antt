@@ -1,4 +1,5 @@
--- `tools::bytes::least_width`. The invariant: no width passed holds m, so the least from here on is the least of all. Assumes nothing.
+-- `tools::bytes::least_width`. The invariant: no width passed holds m, so the least from here on is the least of all.
+-- Assumes nothing.
 use Prim.Native.Nat.{ℕ, _+_, _-_, _*_, _^_, _≤_, _<_}
 use mathlib.Core.Path.{_≡_, refl, sym, _∙_}
 use mathlib.Core.Bool.{Bool}

@@ -17,7 +17,7 @@ use Rattle.tools.proofs.signed_vint.as_signed_vint_with_length.Tie as t
 in-range : (c : tie.Else3) → natAbs (c .before .before .before .before .before .before .args .val) < 2 ^ (7 * c .before .before .before .before .before .before .args .width - 1)
 in-range c =
     let t = c .before .before .before .before .before .before in
-    let a = rw (toZ-ofZ w64 (t .args .val) (t .fits .val)) at (c .before .abs-of .ensures) in
+    let a = rw (toZ-ofZ w64 (t .args .val) (t .fits .val)) at (c .before .absolute-value .ensures) in
     rw (← c .before .before .pow2 .ensures, ← a) (c .if3 .left)
 
 returns : tie.Need-returns
@@ -35,14 +35,14 @@ sub-pow2 c = search needs
 pow2-requires : tie.Need-pow2-requires
 pow2-requires c κs = search needs
 
-abs-of-requires : tie.Need-abs-of-requires
-abs-of-requires c κs = search needs
+absolute-value-requires : tie.Need-absolute-value-requires
+absolute-value-requires c κs = search needs
 
 returns-3 : tie.Need-returns-3
 returns-3 c =
     let t = c .before .before .before .before .before .before in
     let z = t .args .val in
-    let a : c .before .abs-of .result ≡ natAbs z = rw (toZ-ofZ w64 z (t .fits .val)) at (c .before .abs-of .ensures) in
+    let a : c .before .absolute-value .result ≡ natAbs z = rw (toZ-ofZ w64 z (t .fits .val)) at (c .before .absolute-value .ensures) in
     let h : 2 ^ (7 * t .args .width - 1) ≤ natAbs z = rw (← c .before .before .pow2 .ensures, ← a) (c .if3 .taken) in
     gives (signed-over _ _ _ (c .before .before .before .before .if1 .left) (c .before .before .before .if2 .left) h)
 
@@ -80,7 +80,7 @@ as-signed-vint-with-length-spec =
     mul-pow2
     sub-pow2
     pow2-requires
-    abs-of-requires
+    absolute-value-requires
     returns-3
     mul-bits-of
     bits-of-requires

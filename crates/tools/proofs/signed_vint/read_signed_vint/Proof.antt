@@ -1,12 +1,13 @@
--- `tools::signed_vint::read_signed_vint`: what `read_vint` answers, its value taken as two's complement. Assumes nothing.
+-- `tools::signed_vint::read_signed_vint`: what `read_vint` answers, its value taken as two's complement. Assumes
+-- nothing.
 use Prim.Native.Nat.{ℕ, _+_, _-_, _*_, _^_, _≤_, _<_}
 use mathlib.Core.Path.{_≡_, refl, sym, ap, _∙_}
 use native.Mathlib.Omega.{arith}
 use mir.Syntax.{w64}
 use mir.ValLaws.{toZ-ofZ}
 use Rattle.tools.specs.SignedVint.{takenSigned}
-use Rattle.tools.specs.Vint.{IsVint}
-use Rattle.tools.proofs.Rfc8794.{Front, read-sound}
+use Rattle.tools.specs.Vint.{IsVint, Front}
+use Rattle.tools.proofs.Rfc8794.{read-sound}
 use borrow.Author.Needs.{needs}
 use Rattle.tools.proofs.signed_vint.read_signed_vint.Statement.{statement}
 use Rattle.tools.proofs.signed_vint.read_signed_vint.Tie as tie

@@ -2,18 +2,15 @@
 use Prim.Native.Nat.{ℕ, _+_, _^_, _≤_, _<_}
 use mathlib.Core.Path.{_≡_, refl, _∙_, sym, ap}
 use native.Mathlib.Omega.{arith}
-use Rattle.tools.specs.Vint.{vintWidth, widthFor}
+use Rattle.tools.specs.Vint.{vintWidth, vintLimit, widthFor}
 use Rattle.tools.proofs.Cases.{gives, least-over, least-written}
 use Rattle.tools.proofs.Widths.{vint-width}
 use borrow.Author.Needs.{needs}
 use Rattle.tools.proofs.vint.as_vint.Statement.{statement}
 use Rattle.tools.proofs.vint.as_vint.Tie as tie
 
-pow2-requires : tie.Need-pow2-requires
-pow2-requires c κs = search needs
-
 returns : tie.Need-returns
-returns c = gives (least-over _ _ (rw (← c .before .pow2 .ensures) (c .if1 .taken)))
+returns c = gives (least-over _ _ (c .if1 .taken))
 
 add-least-width : tie.Need-add-least-width
 add-least-width c = search needs
@@ -30,8 +27,8 @@ same-length c = search needs
 returns-2 : tie.Need-returns-2
 returns-2 c =
     let t = c .before .before .before .before .before in
-    let v = t .before .before .before .args .val in
-    let small : v < 2 ^ 56 = rw (← t .before .pow2 .ensures) (t .if1 .left) in
+    let v = t .before .before .args .val in
+    let small : v < vintLimit = t .if1 .left in
     let w : c .before .before .before .before .least-width .result ≡ vintWidth v =
     c .before .before .before .before .least-width .ensures .0 ∙ sym (vint-width v) in
     rw (least-written _ _ small, ← w) (c .before .before .as-vint-with-length .ensures)
@@ -40,7 +37,6 @@ pub as-vint-spec : {M : Type 1} → statement M
 as-vint-spec =
     tie.close
     (tie.spec
-    pow2-requires
     returns
     add-least-width
     least-width-requires

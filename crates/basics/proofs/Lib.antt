@@ -1,0 +1,6 @@
+pub mod Bools
+pub mod Every
+pub mod Loops
+pub mod Sums
+pub mod ArrayOf32
+pub mod Computing

@@ -1,0 +1,37 @@
+-- What helpers' contracts use: parts of the definitions of one call, over the fields that they read.
+use Prim.Native.Nat.{ℕ}
+use mathlib.Core.Bool.{Bool, cond, not, _&&_}
+use mathlib.Core.List.{List}
+use lib.Dec.{ltb}
+use Rattle.table.specs.Check.{onlyIds}
+use Rattle.table.specs.declared.types.TagDataType.{TagDataType}
+use Rattle.table.specs.Table.{partsOf, partsIn, isTyped}
+use Rattle.tag_parse.specs.declared.types.EBMLSize.{EBMLSize}
+use Rattle.tag_parse.specs.declared.types.EBMLSize.the-variants.{Known, Unknown}
+use Rattle.tag_parse.specs.declared.types.TagHeader.{TagHeader}
+use Rattle.decoder_rules.specs.declared.types.Check.{Check}
+use Rattle.decoder_rules.specs.declared.types.Check.the-variants.{Pass, Fail}
+use Rattle.decoder_rules.specs.declared.types.DecodeError.the-variants.{InvalidTagSize}
+use Rattle.decoder_rules.specs.declared.types.Note.{Note}
+use Rattle.decoder_rules.specs.declared.types.Note.the-variants.{NoNote, Settle}
+
+-- step 7's test where the record is settled or not, with the path at the range in the header
+abbrev pub doesSettle : List ℕ → Bool → TagHeader → Bool
+doesSettle ps settled h = not settled && isTyped (h .kind) && onlyIds (partsIn (partsOf ps) (h .path))
+
+-- step 7's note so
+abbrev pub settlingNote : List ℕ → Bool → TagHeader → Note
+settlingNote ps settled h = cond (doesSettle ps settled h) (Settle (h .path)) NoNote
+
+-- whether step 8 walks the path: "Path, for a typed ID once settled, unless allowed"
+unfoldable pub isWalked : TagDataType → Bool → Bool → Bool
+isWalked kind settled allowed = settled && not allowed && isTyped kind
+
+-- 17 for a size n, where a greatest size is given
+unfoldable pub sizeChecked : Bool → ℕ → ℕ → Check
+sizeChecked given greatest n = cond (given && ltb greatest n) (Fail InvalidTagSize) Pass
+
+-- a size that is known; 0 for one that is not
+abbrev pub knownSize : EBMLSize → ℕ
+knownSize (Known n) = n
+knownSize Unknown = 0

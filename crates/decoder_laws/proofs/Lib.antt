@@ -1,3 +1,0 @@
-pub mod Settles
-pub mod Cuts
-pub mod Finishing

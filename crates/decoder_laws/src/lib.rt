@@ -1,1 +1,0 @@
-// What holds of the decoder's calls whoever makes them: what appended bytes change, what settles, what is finished. There is no code of its own here.

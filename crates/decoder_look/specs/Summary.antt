@@ -1,0 +1,54 @@
+-- What helpers' contracts use: what the tests of a call ask of the record, and the words in which its open masters are
+-- lent to them.
+use Prim.Native.Nat.{ℕ, _-_, _^_, min}
+use mathlib.Core.Bool.{Bool, cond}
+use mathlib.Core.List.{List, [], _∷_}
+use mathlib.Core.Path.{_≡_}
+use Rattle.spec_util.specs.Walk.{mostOpen, ShownIds, Shown}
+use Rattle.spec_util.specs.declared.types.OpenTag.{OpenTag}
+use Rattle.decoder_rules.specs.Record.{opens, endOf}
+use Rattle.decoder_rules.specs.OneCall.{goodState, step3}
+use Rattle.decoder_rules.specs.declared.types.TagDecoder.{TagDecoder}
+use Rattle.decoder_look.specs.declared.summary.Summary.{Summary}
+use Rattle.decoder_look.specs.declared.summary.HeaderView.{HeaderView}
+
+-- where a master ends: 2^64 - 1 where its size is not known, and for an end beyond
+unfoldable pub shownEnd : OpenTag → ℕ
+shownEnd m = cond (m .known) (min (endOf m) (2 ^ 64 - 1)) (2 ^ 64 - 1)
+
+-- the least of the masters' ends
+unfoldable pub leastEnd : List OpenTag → ℕ
+leastEnd [] = 2 ^ 64 - 1
+leastEnd (m ∷ l) = min (shownEnd m) (leastEnd l)
+
+-- what steps 6 to 11 ask of the record
+abbrev pub headerView : TagDecoder → HeaderView
+headerView d = record {
+  settings = d .settings;
+  position = d .position;
+  settled = d .settled;
+  count = d .«open_count»;
+  «least_end» = leastEnd (opens d);
+}
+
+-- what steps 1 to 11 ask of the record
+abbrev pub summary : TagDecoder → Summary
+summary d = record { «is_state_good» = goodState d; finished = d .finished; «waiting_count» = d .«waiting_count»; «first_full» = step3 d; view = headerView d }
+
+-- ---- a promise that is made of every record, or every list of masters, that the lent words show
+
+-- of every record whose first n masters have these IDs
+abbrev pub ForEveryRecordWithIds : List ℕ → ℕ → (TagDecoder → Type 0) → Type 0
+ForEveryRecordWithIds ids n P = (d : TagDecoder) → ShownIds ids n (opens d) → P d
+
+-- of every list of n masters with these IDs, of known size or not as shown
+abbrev pub ForEveryMasters : List ℕ → List Bool → ℕ → (List OpenTag → Type 0) → Type 0
+ForEveryMasters ids knowns n P = (l : List OpenTag) → Shown ids knowns n l → P l
+
+-- of every record that steps 6 to 11 see so, where at most 32 are open
+abbrev pub ForEveryRecordSeenAs : HeaderView → List ℕ → List Bool → (TagDecoder → Type 0) → Type 0
+ForEveryRecordSeenAs s ids knowns P = (d : TagDecoder) → s ≡ headerView d → Shown ids knowns (s .count) (opens d) → P d
+
+-- of every record that a whole call sees so
+abbrev pub ForEveryRecordSummedUpAs : Summary → List ℕ → List Bool → (TagDecoder → Type 0) → Type 0
+ForEveryRecordSummedUpAs k ids knowns P = (d : TagDecoder) → k ≡ summary d → Shown ids knowns (min (d .«open_count») mostOpen) (opens d) → P d

@@ -1,0 +1,2 @@
+pub mod DecisionApplies
+pub mod MoveParts

@@ -1,0 +1,11 @@
+pub mod GoodState
+pub mod MoveEffects
+pub mod EmptyPlacesZero
+pub mod MovesKeepGoodState
+pub mod MoveLaws
+pub mod Exits
+pub mod HeaderPath
+pub mod EndExits
+pub mod AppendedDecision
+pub mod Computing
+pub mod Starred

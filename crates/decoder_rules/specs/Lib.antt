@@ -1,0 +1,9 @@
+pub mod Record
+pub mod Settings
+pub mod Numbers
+pub mod OneCall
+pub mod Deciding
+pub mod Moving
+pub mod EndOfInput
+pub mod Recovery
+pub mod Run

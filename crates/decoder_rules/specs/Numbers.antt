@@ -1,0 +1,31 @@
+-- Document 01, "Refusal numbers": those of the decoder's calls.
+use Prim.Native.Nat.{ℕ}
+use Rattle.tag_parse.specs.declared.types.ParseError.{ParseError}
+use Rattle.tag_parse.specs.declared.types.ParseError.the-variants as parse
+use Rattle.decoder_rules.specs.declared.types.DecodeError.{DecodeError}
+use Rattle.decoder_rules.specs.declared.types.DecodeError.the-variants as error
+
+-- the number of a refusal
+abbrev pub errorNumber : DecodeError → ℕ
+errorNumber error.TableShape = 10
+errorNumber error.BadState = 11
+errorNumber error.TooFar = 12
+errorNumber error.AfterFinish = 13
+errorNumber error.InvalidTagData = 14
+errorNumber error.InvalidTagId = 15
+errorNumber error.HierarchyError = 16
+errorNumber error.InvalidTagSize = 17
+errorNumber error.OversizedChildElement = 18
+errorNumber error.TooManyOpen = 19
+errorNumber error.FromUtf8Error = 20
+errorNumber error.ReadF64Mismatch = 21
+errorNumber error.ReadIntegerOverflow = 22
+errorNumber (error.UnexpectedEOF c) = 23
+errorNumber error.NotAMaster = 24
+
+-- the decoder's refusal for what reading an element refuses
+abbrev pub parseError : ParseError → DecodeError
+parseError parse.InvalidTagData = error.InvalidTagData
+parseError parse.FromUtf8Error = error.FromUtf8Error
+parseError parse.ReadF64Mismatch = error.ReadF64Mismatch
+parseError parse.ReadIntegerOverflow = error.ReadIntegerOverflow

@@ -1,0 +1,10 @@
+-- One name for what a worked example of any calls computes with: a definition unfolds what its own line names, so
+-- `unfolding historyComputes` opens all of it. Assumes nothing.
+use Rattle.decoder_rules.proofs.Computing.{rulesCompute}
+use Rattle.guarantees.specs.Calls.{recordAfter, history}
+use Rattle.guarantees.specs.Settling.{impliedBy, settleAt, settleWithin, hasSettled}
+use Rattle.guarantees.specs.History.{declaredEnd, later, startsOpen, parentsLeft, position}
+
+unfoldable pub historyComputes : Unit {0}
+unfolding rulesCompute recordAfter history impliedBy settleAt settleWithin hasSettled declaredEnd later startsOpen parentsLeft position
+historyComputes = tt

@@ -1,0 +1,275 @@
+-- The settling note of a call on a record that has not settled is the one that a caller can tell from the bytes lent
+-- and the answer alone. Assumes nothing.
+use Prim.Native.Nat.{ℕ, suc, _+_, _-_}
+use mathlib.Core.Path.{_≡_, refl, sym, ap, _∙_}
+use mathlib.Core.Bool.{Bool, true, false, cond, not, _&&_, _||_, true≢false, false≢true}
+use mathlib.Core.List.{List, [], _∷_}
+use native.Mathlib.Omega.{arith}
+use lib.ListN.{length}
+use Rattle.table.specs.Check.{onlyIds}
+use Rattle.table.specs.Shape.{goodShape}
+use Rattle.table.specs.Table.{Entry, tableOf, pathOf, isTyped}
+use Rattle.tag_parse.specs.Header.{readTagId, afterId, readHeader}
+use Rattle.tag_parse.specs.declared.types.ParseError.{ParseError}
+use Rattle.tag_parse.specs.declared.types.ParseError.the-variants as parse
+use Rattle.tag_parse.specs.declared.types.ReadHeader.{ReadHeader}
+use Rattle.tag_parse.specs.declared.types.ReadHeader.the-variants as header
+use Rattle.tag_parse.specs.declared.types.TagHeader.{TagHeader}
+use Rattle.decoder_rules.specs.Record.{withSettings}
+use Rattle.decoder_rules.specs.Numbers.{errorNumber, parseError}
+use Rattle.decoder_rules.specs.OneCall.{checkRecord10to12, step6, step7, isSettle, noted}
+use Rattle.decoder_rules.specs.Deciding.{decide}
+use Rattle.decoder_rules.specs.Moving.{move, apply, decode}
+use Rattle.decoder_rules.specs.EndOfInput.{decodeEof}
+use Rattle.decoder_rules.specs.Recovery.{endOfSearch, endingAt, ending, searchOr, tryRecover}
+use Rattle.decoder_rules.specs.Settings.{limitedTo}
+use Rattle.decoder_rules.specs.declared.types.Action.{Action}
+use Rattle.decoder_rules.specs.declared.types.Action.the-variants as act
+use Rattle.decoder_rules.specs.declared.types.Answer.{Answer}
+use Rattle.decoder_rules.specs.declared.types.Answer.the-variants as answer
+use Rattle.decoder_rules.specs.declared.types.Check.{Check}
+use Rattle.decoder_rules.specs.declared.types.Check.the-variants.{Pass, Fail}
+use Rattle.decoder_rules.specs.declared.types.Decision.{Decision}
+use Rattle.decoder_rules.specs.declared.types.Decoded.{Decoded}
+use Rattle.decoder_rules.specs.declared.types.Note.{Note}
+use Rattle.decoder_rules.specs.declared.types.Note.the-variants.{NoNote, Settle}
+use Rattle.decoder_rules.specs.declared.types.Optional.{Optional}
+use Rattle.decoder_rules.specs.declared.types.Optional.the-variants.{Nothing, Number}
+use Rattle.decoder_rules.specs.declared.types.Place.{Place}
+use Rattle.decoder_rules.specs.declared.types.Place.the-variants.{Stop, Found, On}
+use Rattle.decoder_rules.specs.declared.types.PlaceResult.{PlaceResult}
+use Rattle.decoder_rules.specs.declared.types.TagDecoder.{TagDecoder}
+use Rattle.decoder_rules.proofs.GoodState.{GoodState}
+use Rattle.decoder_rules.proofs.Exits as exit
+use Rattle.decoder_rules.proofs.Exits.{Closing, HeaderExit, Exit, exits, finished-unlent}
+use Rattle.decoder_rules.proofs.EndExits as end
+use Rattle.decoder_rules.proofs.EndExits.{EndExit, end-keeps, EofExit, isQuiet, eof-exits}
+use Rattle.decoder_rules.proofs.MoveLaws.{withNote, noted-position, noted-settled, decode-settled}
+use Rattle.basics.proofs.Bools.{pick, or-none}
+use Rattle.guarantees.specs.Calls.{Call, decoding, ending as at-end, recovering, allow, limit, lent, searched, responseTo, next, answerRefusal}
+use Rattle.guarantees.specs.Settling.{orElse, settleHeader, settleAt, settleWithin, comesUnread, searchNote, seenNote}
+use Rattle.guarantees.proofs.Notes.{readNote, placeNote, Way, no-byte, ends-here, goes-on, way, gone-position, gone-settled, way-later, searchNoteOr, noteOf}
+use Rattle.guarantees.proofs.Decided.{only-far}
+use Rattle.guarantees.proofs.Recovery.{recover-keeps}
+
+-- ---- no step after the first refuses with 12 or 13
+
+-- the number of the refusal that was decided; 0 for any other action
+abbrev actionRefusal : Action → ℕ
+actionRefusal (act.Refuse e) = errorNumber e
+actionRefusal act.NeedMore = 0
+actionRefusal act.Finish = 0
+actionRefusal act.HandOut = 0
+actionRefusal (act.Close k) = 0
+actionRefusal (act.Start x z len) = 0
+actionRefusal (act.Data x v n) = 0
+
+move-refusal : (d : TagDecoder) (a : Action) → answerRefusal (move d a .answer) ≡ actionRefusal a
+unfolding move
+move-refusal d (act.Refuse e) = refl
+move-refusal d act.NeedMore = refl
+move-refusal d act.Finish = refl
+move-refusal d act.HandOut = refl
+move-refusal d (act.Close k) = refl
+move-refusal d (act.Start x z len) = refl
+move-refusal d (act.Data x v n) = refl
+
+-- what was decided is no refusal that comes before a byte is read
+abbrev Late : Action → Type 0
+Late a = comesUnread (actionRefusal a) ≡ false
+
+parse-read : (e : ParseError) → comesUnread (errorNumber (parseError e)) ≡ false
+parse-read parse.InvalidTagData = refl
+parse-read parse.FromUtf8Error = refl
+parse-read parse.ReadF64Mismatch = refl
+parse-read parse.ReadIntegerOverflow = refl
+
+closing-late : {t : List Entry} {d : TagDecoder} {k : ℕ} {a : Action} → Closing t d k a → Late a
+closing-late (exit.closes e) = refl
+closing-late (exit.no-master e) = refl
+
+header-late : {t : List Entry} {d : TagDecoder} {h : TagHeader} {s : List ℕ} {a : Action} → HeaderExit t d h s a → Late a
+header-late (exit.misplaced p) = refl
+header-late (exit.oversized n p e f) = refl
+header-late (exit.too-large n p e f g) = refl
+header-late (exit.ends-tops v l c) = closing-late c
+header-late (exit.too-many at k l) = refl
+header-late (exit.starts at k l) = refl
+header-late (exit.no-size at k e) = refl
+header-late (exit.payload-incomplete n has l) = refl
+header-late (exit.payload-refused n x has l e) = parse-read x
+header-late (exit.holds n v has l e) = refl
+
+-- ---- the note of a decode call on a record that has not settled
+
+settle-none : (t : List Entry) (s : List ℕ) → length s ≡ 0 → settleAt t s ≡ NoNote
+unfolding settleAt readHeader afterId readTagId
+settle-none t [] e = refl
+settle-none t (b ∷ s) e = absurd (omega arith)
+
+unsettled-step7 : (t : List Entry) (d : TagDecoder) (h : TagHeader) → d .settled ≡ false → step7 t d h ≡ settleHeader t (header.Header h)
+unsettled-step7 t d h u = ap (λ (b : Bool). cond (not b && isTyped (h .kind) && onlyIds (pathOf t (h .id))) (Settle (h .path)) NoNote) u
+
+untyped-settles-none : (t : List Entry) (d : TagDecoder) (h : TagHeader) → step6 d h ≡ false → settleHeader t (header.Header h) ≡ NoNote
+untyped-settles-none t d h e = go (isTyped (h .kind)) (d .settings .«allow_ids») e
+  where
+    go : (a b : Bool) → (a || b) ≡ false → cond (a && onlyIds (pathOf t (h .id))) (Settle (h .path)) NoNote ≡ NoNote
+    go true b f = absurd (true≢false f)
+    go false b f = refl
+
+-- nothing has settled, so nothing is open and nothing waits
+pub record Began (d : TagDecoder) : Type 0 where
+  pub unsettled : d .settled ≡ false
+  pub none-waiting : d .«waiting_count» ≡ 0
+  pub none-open : d .«open_count» ≡ 0
+
+-- the note that a caller can tell where the refusal has this number
+abbrev toldNote : List Entry → List ℕ → ℕ → Note
+toldNote t s n = cond (comesUnread n) NoNote (settleAt t s)
+
+module _ (es ps : List ℕ) (shape : goodShape es ps ≡ true) (d : TagDecoder) (s : List ℕ) (good : GoodState d) (began : Began d) where
+  settle-is : {r : ReadHeader} → readHeader (tableOf es ps) s ≡ r → settleAt (tableOf es ps) s ≡ settleHeader (tableOf es ps) r
+  unfolding settleAt
+  settle-is e = ap (settleHeader (tableOf es ps)) e
+
+  -- the note of a decision is the one that a caller can tell
+  abbrev Visible : Decision → Type 0
+  Visible a = a .note ≡ toldNote (tableOf es ps) s (actionRefusal (a .action))
+
+  exit-visible : {a : Decision} → Exit es ps d s a → Visible a
+  exit-visible (exit.refused-first x e) = rw (only-far es ps d (length s) shape good e .number)
+  exit-visible (exit.after-finish e f l) = refl
+  exit-visible (exit.hands-out ok w) = absurd (omega (arith, began .none-waiting))
+  exit-visible (exit.finished ok w f) = sym (settle-none (tableOf es ps) s (finished-unlent es ps d s ok f))
+  exit-visible (exit.closes-full r l c) = absurd (omega (arith, began .none-open))
+  exit-visible (exit.no-byte n z) = sym (settle-none (tableOf es ps) s z)
+  exit-visible (exit.header-incomplete at e) = sym (settle-is e)
+  exit-visible (exit.header-refused x at e) = rw (parse-read x) (sym (settle-is e))
+  exit-visible (exit.unknown-id h at f) = sym (settle-is (at .read) ∙ untyped-settles-none (tableOf es ps) d h f)
+  exit-visible (exit.on-header h at f x) = rw (header-late x) (unsettled-step7 (tableOf es ps) d h (began .unsettled) ∙ sym (settle-is (at .read)))
+
+  decode-seen : decide es ps d s .note ≡ toldNote (tableOf es ps) s (answerRefusal (decode es ps d s .answer))
+  unfolding apply
+  decode-seen = exit-visible (exits es ps d s) ∙ ap (toldNote (tableOf es ps) s) (sym (move-refusal (withNote es ps d s) (decide es ps d s .action)))
+
+  -- ---- the end of input
+
+  quiet-late : (a : Answer) → isQuiet a ≡ true → answerRefusal a ≡ 0
+  quiet-late (answer.Event e) q = refl
+  quiet-late answer.NeedMore q = refl
+  quiet-late answer.Finished q = refl
+  quiet-late (answer.Refused r) q = absurd (false≢true q)
+
+  end-late : {e : TagDecoder} {r : Decoded} → EndExit (tableOf es ps) e s r → comesUnread (answerRefusal (r .answer)) ≡ false
+  unfolding move
+  end-late (end.bytes-left l) = refl
+  end-late (end.master-cut z l) = refl
+  end-late (end.no-master n m) = refl
+  end-late (end.finishes n m z) = refl
+  end-late (end.closes-all n m l) = refl
+
+  eof-visible : {r : Decoded} → EofExit es ps d s r → decide es ps d s .note ≡ toldNote (tableOf es ps) s (answerRefusal (r .answer))
+  eof-visible (end.as-decoded q) = decode-seen
+  eof-visible (end.at-end q x) = decode-seen ∙ ap (toldNote (tableOf es ps) s) (quiet-late (decode es ps d s .answer) q) ∙ rw (end-late x)
+
+  eof-seen : decide es ps d s .note ≡ toldNote (tableOf es ps) s (answerRefusal (decodeEof es ps d s .answer))
+  eof-seen = eof-visible (eof-exits es ps d s)
+
+-- ---- a recovery
+
+module _ (t : List Entry) where
+  -- the note of a place on a record that has not settled
+  place-seen : (d : TagDecoder) (s : List ℕ) → d .settled ≡ false → placeNote t d s ≡ settleAt t s
+  unfolding placeNote settleAt
+  place-seen d s u = go (readHeader t s)
+    where
+      go : (r : ReadHeader) → readNote t d r ≡ settleHeader t r
+      go header.NeedMore = refl
+      go (header.Refused x) = refl
+      go (header.Header h) =
+          pick (λ (n : Note). n ≡ settleHeader t (header.Header h)) (step6 d h) (step7 t d h) NoNote (λ f. unsettled-step7 t d h u)
+          (λ f. sym (untyped-settles-none t d h f))
+
+  -- the first of one place, and of one place more
+  within-here : (m : ℕ) (s : List ℕ) → m ≡ 0 → settleWithin t m s ≡ settleAt t s
+  unfolding settleWithin
+  within-here m s q = rw q
+
+  within-next : (m n b : ℕ) (s : List ℕ) → m ≡ suc n → settleWithin t m (b ∷ s) ≡ orElse (settleAt t (b ∷ s)) (settleWithin t n s)
+  unfolding settleWithin
+  within-next m n b s q = rw q
+
+neither : (a b : Bool) → a ≡ false → b ≡ false → (a || b) ≡ false
+neither a b p q = rw (p, q)
+
+or-else-same : (n x y : Note) → (isSettle n ≡ false → x ≡ y) → orElse n x ≡ orElse n y
+or-else-same NoNote x y h = h refl
+or-else-same (Settle path) x y h = refl
+
+module _ {ps : List ℕ} {t : List Entry} where
+  -- the first note of a search is the first that settles of the places that it read
+  way-seen : {d : TagDecoder} {s : List ℕ} {n : Note} {p : PlaceResult} → Way ps t d s n p → d .settled ≡ false
+      → n ≡ settleWithin t (p .state .position - d .position) s
+  way-seen (no-byte d) u = sym (within-here t (d .position - d .position) [] (omega arith) ∙ settle-none t [] refl)
+  way-seen (ends-here d b s q) u =
+      let e = noted ps d (placeNote t d (b ∷ s)) in
+      let none : e .position - d .position ≡ 0 = omega (arith, noted-position ps d (placeNote t d (b ∷ s))) in
+      place-seen t d (b ∷ s) u ∙ sym (within-here t (e .position - d .position) (b ∷ s) none)
+  way-seen (goes-on d b s {later} {p} w) u =
+      let n = placeNote t d (b ∷ s) in
+      let k = p .state .position - (d .position + 1) in
+      let place = gone-position ps d n in
+      let more : p .state .position - d .position ≡ suc k = omega (arith, way-later w) in
+      let rest : isSettle n ≡ false → later ≡ settleWithin t k s =
+      λ q. way-seen w (gone-settled ps d n ∙ neither (d .settled) (isSettle n) u q) ∙ ap (λ (i : ℕ). settleWithin t (p .state .position - i) s) place in
+      or-else-same n later (settleWithin t k s) rest
+      ∙ ap (λ (x : Note). orElse x (settleWithin t k s)) (place-seen t d (b ∷ s) u)
+      ∙ sym (within-next t (p .state .position - d .position) k b s more)
+
+module _ (es ps : List ℕ) (d : TagDecoder) (s : List ℕ) (u : d .settled ≡ false) where
+  ending-seen : (p : ℕ) (e : TagDecoder) (q : Place)
+      → searchNote (tableOf es ps) s (endingAt p q e .answer) (endingAt p q e .taken) ≡ settleWithin (tableOf es ps) (e .position - p) s
+  ending-seen p e Stop = refl
+  ending-seen p e Found = refl
+  ending-seen p e On = refl
+
+  search-seen : (c : Check) → searchNoteOr ps (tableOf es ps) d s c ≡ searchNote (tableOf es ps) s (searchOr ps (tableOf es ps) d s c .answer) (searchOr ps (tableOf es ps) d s c .taken)
+  unfolding ending
+  search-seen (Fail e) = refl
+  search-seen Pass =
+      let p = endOfSearch ps (tableOf es ps) d s in
+      way-seen (way ps (tableOf es ps) s d) u ∙ sym (ending-seen (d .position) (p .state) (p .place))
+
+  recover-seen : searchNoteOr ps (tableOf es ps) d s (checkRecord10to12 es ps d (length s))
+      ≡ seenNote (tableOf es ps) s (searched (tryRecover es ps d s .answer) (tryRecover es ps d s .taken))
+  unfolding tryRecover
+  recover-seen = search-seen (checkRecord10to12 es ps d (length s))
+
+-- ---- what has settled: the record says what the notes say
+
+module _ (es ps : List ℕ) (d : TagDecoder) where
+  eof-settled : (s : List ℕ) {r : Decoded} → EofExit es ps d s r → r .state .settled ≡ (d .settled || isSettle (decide es ps d s .note))
+  eof-settled s (end.as-decoded q) = decode-settled es ps d s
+  eof-settled s (end.at-end q x) = end-keeps x .settled ∙ noted-settled ps d (decide es ps d s .note)
+
+  limit-settled : (n : Optional) → limitedTo d n .settled ≡ (d .settled || false)
+  unfolding withSettings
+  limit-settled Nothing = or-none (d .settled)
+  limit-settled (Number n) = or-none (d .settled)
+
+  -- a record has settled after a call where it had before, or where the call's note settles
+  pub next-settled : (c : Call) → next es ps d c .settled ≡ (d .settled || isSettle (noteOf es ps d c))
+  unfolding withSettings
+  next-settled (decoding s) = decode-settled es ps d s
+  next-settled (at-end s) = eof-settled s (eof-exits es ps d s)
+  next-settled (recovering s) = recover-keeps es ps d s .settled
+  next-settled (allow ids hierarchy oversized) = or-none (d .settled)
+  next-settled (limit n) = limit-settled n
+
+  -- the note of a call on a record that has not settled
+  pub note-seen : goodShape es ps ≡ true → GoodState d → Began d → (c : Call) → noteOf es ps d c ≡ seenNote (tableOf es ps) (lent c) (responseTo es ps d c)
+  note-seen shape good began (decoding s) = decode-seen es ps shape d s good began
+  note-seen shape good began (at-end s) = eof-seen es ps shape d s good began
+  note-seen shape good began (recovering s) = recover-seen es ps d s (began .unsettled)
+  note-seen shape good began (allow ids hierarchy oversized) = refl
+  note-seen shape good began (limit n) = refl

@@ -1,0 +1,9 @@
+-- One name for what a worked example of who ends whom and of the path walk computes with: a definition unfolds what its
+-- own line names, so `unfolding walksCompute` opens all of it. Assumes nothing.
+use Rattle.table.proofs.Computing.{tableComputes}
+use Rattle.spec_util.specs.Ended.{isIdOf, hasId, isParent, isSibling, isTypedRoot, isEndedBy}
+use Rattle.spec_util.specs.Walk.{overMax, underMin, isIdAt, walkGlobal, walkAt, walkPart, unknownAndEnded, walkMaster, minMet, walkEnd, goOn, walkFrom, validateTagPath, mastersShown}
+
+unfoldable pub walksCompute : Unit {0}
+unfolding tableComputes isIdOf hasId isParent isSibling isTypedRoot isEndedBy overMax underMin isIdAt walkGlobal walkAt walkPart unknownAndEnded walkMaster minMet walkEnd goOn walkFrom validateTagPath mastersShown
+walksCompute = tt

@@ -1,4 +1,0 @@
-pub mod Settings
-pub mod Fits
-pub mod Recovery
-pub mod Moves
