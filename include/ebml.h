@@ -1,19 +1,22 @@
 /* ebml.h: the calls of libebml.a, a decoder for EBML (RFC 8794) that is proved to meet its definitions.
  *
- * The archive is built by `rt staticlib ebml` and links into a program for x86-64 Linux. Every call here answers on every input and keeps
- * nothing between calls: no heap, no global state, no lock.
+ * The archive is built by `rt staticlib ebml` and links into a program for x86-64 Linux. Every call here answers on
+ * every input and keeps nothing between calls: no heap, no global state, no lock.
  *
  * WHAT A CALLER OWES
- *  - A lent buffer is a pointer and then its length in elements (bytes, or words of a table). The pointer is not null, is aligned for its
- *    elements and points to that many of them, PTRDIFF_MAX bytes at most, which the call may read and, if it is not const, write.
- *  - A length of 0 is allowed, and then nothing is read or written through the pointer. It is still not null: lend the address of any object.
- *  - A buffer that a call writes overlaps no other buffer of the same call, and no other thread uses it during the call.
+ *  - A lent buffer is a pointer and then its length in elements (bytes, or words of a table). The pointer is not null,
+ *    is aligned for its elements and points to that many of them, PTRDIFF_MAX bytes at most, which the call may read
+ *    and, if it is not const, write.
+ *  - A length of 0 is allowed, and then nothing is read or written through the pointer. It is still not null: lend the
+ *    address of any object.
+ *  - A buffer that a call writes overlaps no other buffer of the same call, and no other thread uses it during the
+ *    call.
  *
  * WHAT A CALL GIVES BACK: one result number.
  *  - EBML_REFUSED + n is refusal n, listed below. A refusal writes nothing.
  *  - Anything smaller is a success, or "need more"; each call says which.
- *  - A value goes big-endian into the first EBML_VALUE bytes of `out`, in two's complement if it is signed. No byte of `out` past the value, or
- *    past the vint that was written, is changed.
+ *  - A value goes big-endian into the first EBML_VALUE bytes of `out`, in two's complement if it is signed. No byte of
+ *    `out` past the value, or past the vint that was written, is changed.
  */
 #ifndef EBML_H
 #define EBML_H
@@ -42,15 +45,17 @@ enum ebml_refusal {
 };
 
 /* Reads the vint at the front of `buffer`: its value into `out`, its length (1 to 8) as the result.
- * 0: need more; `buffer` is empty, or shorter than the vint that begins there. A longer form than needed is read (40 01 is 1).
+ * 0: need more; `buffer` is empty, or shorter than the vint that begins there. A longer form than needed is read
+ * (40 01 is 1).
  * Refusals: 1, 5 (fewer than 8 bytes of `out`). */
 uint64_t ebml_read_vint(const uint8_t *buffer, size_t buffer_len, uint8_t *out, size_t out_len);
 
 /* The same of a signed vint: its 7 bits to a byte are two's complement. */
 uint64_t ebml_read_signed_vint(const uint8_t *buffer, size_t buffer_len, uint8_t *out, size_t out_len);
 
-/* Writes `val` as a vint at the front of `out`, as short as it can be without all data bits set (126 is FE, 127 is 40 7F); the result is its
- * length. 2^56 - 1 alone comes out with all data bits set, which reads back as an unknown size.
+/* Writes `val` as a vint at the front of `out`, as short as it can be without all data bits set (126 is FE, 127 is
+ * 40 7F); the result is its length. 2^56 - 1 alone comes out with all data bits set, which reads back as an unknown
+ * size.
  * Refusals: 2 (2^56 and above), 5 (`out` is shorter than the vint). */
 uint64_t ebml_as_vint(uint64_t val, uint8_t *out, size_t out_len);
 
@@ -66,25 +71,28 @@ uint64_t ebml_as_signed_vint(int64_t val, uint8_t *out, size_t out_len);
  * Refusals: 4, 3 (-2^(7 width - 1) and below, 2^(7 width - 1) and above: -64 in one byte is refused, -63 is C1), 5. */
 uint64_t ebml_as_signed_vint_with_length(int64_t val, size_t width, uint8_t *out, size_t out_len);
 
-/* 1 where `val` is not 0 and the number of its highest set bit divides by 7, as that of an ID with its marker does; else 0. */
+/* 1 where `val` is not 0 and the number of its highest set bit divides by 7, as that of an ID with its marker does;
+ * else 0. */
 uint64_t ebml_is_vint(uint64_t val);
 
 /* The unsigned integer of 0 to 8 big-endian bytes into `out`; the result is 8. No byte at all is 0. Refusals: 6, 5. */
 uint64_t ebml_arr_to_u64(const uint8_t *arr, size_t arr_len, uint8_t *out, size_t out_len);
 
-/* The signed integer of 0 to 8 big-endian bytes, two's complement in as many bits as there are; the result is 8. Refusals: 6, 5. */
+/* The signed integer of 0 to 8 big-endian bytes, two's complement in as many bits as there are; the result is 8.
+ * Refusals: 6, 5. */
 uint64_t ebml_arr_to_i64(const uint8_t *arr, size_t arr_len, uint8_t *out, size_t out_len);
 
-/* The float of 4 or 8 big-endian bytes, as the 64 bits of a double; the result is 8. Four bytes are widened exactly. A NaN keeps sign and
- * fraction and becomes quiet. Refusals: 7, 5. */
+/* The float of 4 or 8 big-endian bytes, as the 64 bits of a double; the result is 8. Four bytes are widened exactly. A
+ * NaN keeps sign and fraction and becomes quiet. Refusals: 7, 5. */
 uint64_t ebml_arr_to_f64(const uint8_t *arr, size_t arr_len, uint8_t *out, size_t out_len);
 
 /* ---- the table of elements
  *
  * A table is two lists of 64-bit words, which the caller lends to each call that needs one.
- *  - Entries, 4 words each, at most 64: the ID with its marker; the type (EBML_MASTER to EBML_FLOAT); the first part of its path, counted from 0;
- *    the number of its path's parts, at most 16.
- *  - Parts, 3 words each: (0, ID, 0), or (1, min, max) for any number of parents in between; in min and max 0 means not given and n + 1 means n.
+ *  - Entries, 4 words each, at most 64: the ID with its marker; the type (EBML_MASTER to EBML_FLOAT); the first part of
+ *    its path, counted from 0; the number of its path's parts, at most 16.
+ *  - Parts, 3 words each: (0, ID, 0), or (1, min, max) for any number of parents in between; in min and max 0 means not
+ *    given and n + 1 means n.
  * The first entry with an ID counts. */
 enum ebml_type {
     EBML_MASTER = 0,
@@ -97,20 +105,24 @@ enum ebml_type {
 
 /* The table check's refusals. */
 enum ebml_table_fault {
-    EBML_TABLE_SHAPE = 10,         /* words left over, too many entries or parts, a path outside the parts, a word out of its range */
-    EBML_RULE_NOT_A_VINT = 31,     /* the ID is not one that ebml_is_vint accepts */
-    EBML_RULE_REPEATED = 32,       /* an earlier entry has this ID */
+    EBML_TABLE_SHAPE = 10,           /* words left over, too many entries or parts, a path outside the parts, a word
+                                      * out of its range */
+    EBML_RULE_NOT_A_VINT = 31,       /* the ID is not one that ebml_is_vint accepts */
+    EBML_RULE_REPEATED = 32,         /* an earlier entry has this ID */
     EBML_RULE_GLOBAL_IN_MASTER = 33, /* a master's path holds a part (1, ..) */
-    EBML_RULE_NO_MASTER = 34,      /* an ID in the path is no master of the table */
-    EBML_RULE_OTHER_PATH = 35      /* an ID in the path, with only IDs before it, has another path of its own than those */
+    EBML_RULE_NO_MASTER = 34,        /* an ID in the path is no master of the table */
+    EBML_RULE_OTHER_PATH = 35        /* an ID in the path, with only IDs before it, has another path of its own than
+                                      * those */
 };
 
-/* Of a result of ebml_check_table that is not 0: the refusal's number, and the lowest faulty entry, counted from 0 (0 for EBML_TABLE_SHAPE). */
+/* Of a result of ebml_check_table that is not 0: the refusal's number, and the lowest faulty entry, counted from 0
+ * (0 for EBML_TABLE_SHAPE). */
 #define EBML_CHECK_NUMBER(result) ((int)((result) % 65536 - EBML_REFUSED))
 #define EBML_CHECK_ENTRY(result) ((size_t)((result) / 65536))
 
-/* Checks a table once, as a gateway does when it starts: 0 if it passed, else EBML_REFUSED + number + 65536 * entry, for the lowest faulty entry
- * and the first rule that it breaks. The lengths count words. Other calls take any table of good shape. */
+/* Checks a table once, as a gateway does when it starts: 0 if it passed, else EBML_REFUSED + number + 65536 * entry,
+ * for the lowest faulty entry and the first rule that it breaks. The lengths count words. Other calls take any table of
+ * good shape. */
 uint64_t ebml_check_table(const uint64_t *entries, size_t entries_len, const uint64_t *parts, size_t parts_len);
 
 #ifdef __cplusplus
