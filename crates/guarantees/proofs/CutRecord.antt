@@ -204,7 +204,7 @@ comes-23 es ps (suc b) cs f p run k h =
     go answer.Finished e h' rest = absurd h'
     go (answer.Refused r) e h' rest = (0, omega arith, ap answerRefusal e ∙ h')
 
--- ==== a record that was cut cannot look whole
+-- ==== a record cut inside a master of known size does not look whole
 
 -- where the outermost Start of known size that is open is not full, then however often the end of input is called with
 -- no byte, each call answers an End or 23, so none the finish; and 23 comes within 32 Ends. The child-size test may

@@ -69,7 +69,7 @@ SearchFacts search.NotFound = Unit {0}
 SearchFacts (search.Refused r) = errorNumber (r .error) ≡ 12
 
 -- a recovery that starts at p on the bytes s, left being the implied parents with those of its note
-pub record Searched (t : List Entry) (s : List ℕ) (starts : List Started) (left : List ℕ) (p : ℕ) (r : Recovered) : Type 0 where
+pub record RecoveryHolds (t : List Entry) (s : List ℕ) (starts : List Started) (left : List ℕ) (p : ℕ) (r : Recovered) : Type 0 where
   pub promised : SearchFacts (r .answer)
   pub tied : Tied t (r .state) (afterSearch t s (r .answer) (r .taken) starts) left (p + r .taken)
 
@@ -128,7 +128,7 @@ module _ (t : List Entry) (starts : List Started) (left : List ℕ) (p : ℕ) (e
 -- ---- where it ends: p is the place where it started, e the record there
 
 module _ (t : List Entry) (s : List ℕ) (starts : List Started) (left : List ℕ) (p : ℕ) (e : TagDecoder) (n : ℕ) (k : Passing t starts left p e n) where
-  ends-without : Searched t s starts left p (endingAt p Stop e)
+  ends-without : RecoveryHolds t s starts left p (endingAt p Stop e)
   ends-without =
       let here : e .position ≡ p + (e .position - p) = omega (arith, k .behind) in
       record {
@@ -141,7 +141,7 @@ module _ (t : List Entry) (s : List ℕ) (starts : List Started) (left : List �
         };
       }
 
-  ends-with : Searched t s starts left p (endingAt p Found e)
+  ends-with : RecoveryHolds t s starts left p (endingAt p Found e)
   unfolding withSizesGrown withOpen
   ends-with =
       let m = e .position - p in
@@ -157,7 +157,7 @@ module _ (t : List Entry) (s : List ℕ) (starts : List Started) (left : List �
         };
       }
 
-  ends : (q : Place) → Searched t s starts left p (endingAt p q e)
+  ends : (q : Place) → RecoveryHolds t s starts left p (endingAt p q e)
   ends Stop = ends-without
   ends Found = ends-with
   ends On = ends-without
@@ -204,10 +204,10 @@ module _ (es ps : List ℕ) (shape : goodShape es ps ≡ true) (passed : PassedT
 
 module _ (es ps : List ℕ) (shape : goodShape es ps ≡ true) (passed : PassedTable (tableOf es ps)) (starts : List Started) (d : TagDecoder) (s : List ℕ) where
   -- a recovery where a refusal comes first, or none
-  abbrev SearchedOr : List ℕ → ℕ → Check → Type 0
-  SearchedOr left p c = Searched (tableOf es ps) s starts (impliedBy ps (searchNoteOr ps (tableOf es ps) d s c) ++ left) p (searchOr ps (tableOf es ps) d s c)
+  abbrev RecoveryHoldsOr : List ℕ → ℕ → Check → Type 0
+  RecoveryHoldsOr left p c = RecoveryHolds (tableOf es ps) s starts (impliedBy ps (searchNoteOr ps (tableOf es ps) d s c) ++ left) p (searchOr ps (tableOf es ps) d s c)
 
-  search-or : (left : List ℕ) → Tied (tableOf es ps) d starts left (d .position) → (c : Check) → checkRecord10to12 es ps d (length s) ≡ c → SearchedOr left (d .position) c
+  search-or : (left : List ℕ) → Tied (tableOf es ps) d starts left (d .position) → (c : Check) → checkRecord10to12 es ps d (length s) ≡ c → RecoveryHoldsOr left (d .position) c
   unfolding ending impliedBy
   search-or left k Pass e =
       let t = tableOf es ps in
@@ -228,12 +228,12 @@ module _ (es ps : List ℕ) (shape : goodShape es ps ≡ true) (passed : PassedT
 
   -- a recovery promises so much, from a record that is tied
   pub recover-searched : (left : List ℕ) (p : ℕ) → Tied (tableOf es ps) d starts left p
-      → Searched (tableOf es ps) s starts (impliedBy ps (searchNoteOr ps (tableOf es ps) d s (checkRecord10to12 es ps d (length s))) ++ left) p (tryRecover es ps d s)
+      → RecoveryHolds (tableOf es ps) s starts (impliedBy ps (searchNoteOr ps (tableOf es ps) d s (checkRecord10to12 es ps d (length s))) ++ left) p (tryRecover es ps d s)
   unfolding tryRecover
   recover-searched left p k =
       let c = checkRecord10to12 es ps d (length s) in
       let here = subst (Tied (tableOf es ps) d starts left) (sym (k .linked .place)) k in
-      subst (λ (q : ℕ). SearchedOr left q c) (k .linked .place) (search-or left here c refl)
+      subst (λ (q : ℕ). RecoveryHoldsOr left q c) (k .linked .place) (search-or left here c refl)
 
 -- ---- a recovery leaves the settings, and settles where its first note does
 
