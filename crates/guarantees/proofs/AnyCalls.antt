@@ -56,7 +56,7 @@ ResponseFacts t off s starts left p (answered a n) = AnswerFacts t off s starts 
 ResponseFacts t off s starts left p (searched a n) = SearchFacts a
 ResponseFacts t off s starts left p silent = Unit {0}
 
--- a Data takes its element whole, of what any call answers
+-- a Start takes its header alone and a Data its element whole, of what any call answers
 abbrev pub MeasuredResponse : List Entry → List ℕ → ℕ → Response → Type 0
 MeasuredResponse t s p (answered a n) = Measured t s p a n
 MeasuredResponse t s p (searched a n) = Unit {0}

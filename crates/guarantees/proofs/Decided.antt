@@ -68,7 +68,7 @@ use Rattle.decoder_rules.proofs.MoveLaws.{noted-settled, noted-waiting-count, n
 use Rattle.basics.proofs.Every.{every-drop}
 use Rattle.basics.proofs.Bools.{pick, cond-yes, both, and-both, not-false}
 use Rattle.guarantees.specs.History.{declaredEnd, headerEnd, endAfter}
-use Rattle.guarantees.specs.Promises.{valueKind}
+use Rattle.guarantees.specs.Promises.{valueKind, HeaderAlone, WholeData}
 use Rattle.guarantees.proofs.Ends.{FullBatch, step3-batch, step10-batch}
 
 -- ---- a Master of the table
@@ -171,6 +171,7 @@ pub record Heads (t : List Entry) (s : List ℕ) (x : ℕ) : Type 0 where
 -- what holds where a Start was decided
 pub record Starts (t : List Entry) (d : TagDecoder) (s : List ℕ) (x : ℕ) (z : EBMLSize) (len : ℕ) : Type 0 where
   pub heads : Heads t s x
+  pub alone : HeaderAlone t s len
   pub reading : Reading d
   pub settled : d .settled ≡ true
   pub master : dataTypeOf t x ≡ type.Master
@@ -183,6 +184,7 @@ pub record Holds (t : List Entry) (d : TagDecoder) (s : List ℕ) (x : ℕ) (v :
   pub heads : Heads t s x
   pub reading : Reading d
   pub kind : valueKind v ≡ dataTypeOf t x
+  pub whole : WholeData t s (d .position) n v
   pub end : declaredEnd t (d .position) s ≡ Number (d .position + n)
   pub inside : Inside d (d .position + n)
 
@@ -238,6 +240,7 @@ module _ (t : List Entry) (d : TagDecoder) (s : List ℕ) (byte : Octets s) (h :
     start-facts : Valid t d h → isMaster (h .kind) ≡ true → d .settled ≡ true → Starts t d s (h .id) (h .size) (h .len)
     start-facts v k settled = record {
       heads = its-head;
+      alone = record { its = h; read = is; no-more = refl };
       reading = reading;
       settled = settled;
       master = sym (header-spec t s h is .kind) ∙ master-is (h .kind) k;
@@ -246,14 +249,15 @@ module _ (t : List Entry) (d : TagDecoder) (s : List ℕ) (byte : Octets s) (h :
       inside = inside-size v (h .size) refl;
     }
 
-    data-facts : (n : ℕ) (v : TagValue) → HasPayload t d h n → payloadOf d h n s ≡ payload.Value v → Holds t d s (h .id) v (h .len + n)
-    data-facts n v has e =
+    data-facts : (n : ℕ) (v : TagValue) → HasPayload t d h n → h .len + n ≤ length s → payloadOf d h n s ≡ payload.Value v → Holds t d s (h .id) v (h .len + n)
+    data-facts n v has l e =
         let a : d .position + h .len + n ≡ d .position + (h .len + n) = omega arith in
         let k : valueKind v ≡ h .kind = subst (OfKind (h .kind)) e (data-kind (h .kind) _ _ (has .no-master)) in
         record {
           heads = its-head;
           reading = reading;
           kind = k ∙ header-spec t s h is .kind;
+          whole = record { its = h; read = is; size = n; known = has .known; count = refl; within = l; value = e };
           end = end-is ∙ ap (endAfter (d .position + h .len)) (has .known) ∙ ap Number a;
           inside = inside-size (has .at .valid) (Known n) (has .known);
         }
@@ -272,7 +276,7 @@ module _ (t : List Entry) (d : TagDecoder) (s : List ℕ) (byte : Octets s) (h :
       header-facts (exit.no-size at k e) = mild d error.InvalidTagData (omega arith)
       header-facts (exit.payload-incomplete n has l) = reading
       header-facts (exit.payload-refused n x has l e) = parse-mild d x
-      header-facts (exit.holds n v has l e) = data-facts n v has e
+      header-facts (exit.holds n v has l e) = data-facts n v has l e
 
 -- ---- 7: the note
 

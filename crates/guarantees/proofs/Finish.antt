@@ -1,17 +1,19 @@
--- Beyond promise 4: where there was no recovery, the implied parents too have had their Ends when the finish is
--- answered. After the end of input nothing is open in the record, and no call but a recovery opens anything then.
+-- Beyond promise 4: where there was no recovery, the implied parents too have had their Ends when the finish is answered,
+-- or `is_finished` says so. After the end of input nothing is open in the record, and no call but a recovery opens anything then.
 -- Assumes nothing.
 use Prim.Native.Nat.{ℕ}
 use mathlib.Core.Path.{_≡_, refl, sym, ap, _∙_, subst}
 use mathlib.Core.Bool.{Bool, true, false, true≢false, false≢true}
 use mathlib.Core.List.{List, [], _∷_}
 use native.Mathlib.Omega.{arith}
+use borrow.Author.Tests.{eqb-true}
+use lib.Dec.{eqb}
 use Rattle.table.specs.Table.{Entry, tableOf}
 use Rattle.decoder_rules.specs.Record.{withSettings, withOpen, withWaiting, withNotes, closedTo, handedOut}
 use Rattle.decoder_rules.specs.OneCall.{noted}
 use Rattle.decoder_rules.specs.Deciding.{decide}
 use Rattle.decoder_rules.specs.Moving.{move, apply, decode}
-use Rattle.decoder_rules.specs.Settings.{limitedTo}
+use Rattle.decoder_rules.specs.Settings.{limitedTo, isFinished}
 use Rattle.decoder_rules.specs.declared.types.Action.{Action}
 use Rattle.decoder_rules.specs.declared.types.Action.the-variants as act
 use Rattle.decoder_rules.specs.declared.types.Answer.the-variants as answer
@@ -141,3 +143,13 @@ finish-closes-parents es ps cs c run none a =
     let l = stack-length (tableOf es ps) e _ _ _ (k .linked) (q .1) in
     let z : e .«open_count» ≡ 0 = emptied-after es ps (c ∷ cs) none (q .2) in
     sym (finish-left es ps cs c a) ∙ none-open (openAt es ps (c ∷ cs)) (parentsLeft ps (tableOf es ps) (history es ps (c ∷ cs))) (no-starts _ (omega arith)) .1
+
+-- where `is_finished` says so and no call was a recovery, every implied parent has had its End
+pub is-finished-closes-parents : (es ps : List ℕ) (cs : List Call) → Runs es ps cs → neverRecovered cs ≡ true → isFinished (recordAfter es ps cs) ≡ true → parentsLeft ps (tableOf es ps) (history es ps cs) ≡ []
+is-finished-closes-parents es ps cs run none e =
+    let d = recordAfter es ps cs in
+    let b = both (d .finished) (eqb (d .«waiting_count») 0) e in
+    let k = tied-after es ps (run .checked) cs (run .octets) in
+    let l = stack-length (tableOf es ps) d _ _ _ (k .linked) (eqb-true (d .«waiting_count») 0 (b .right)) in
+    let z : d .«open_count» ≡ 0 = emptied-after es ps cs none (b .left) in
+    none-open (openAt es ps cs) (parentsLeft ps (tableOf es ps) (history es ps cs)) (no-starts _ (omega arith)) .1

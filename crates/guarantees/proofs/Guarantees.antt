@@ -11,9 +11,7 @@ use lib.Dec.{eqb}
 use lib.ListN.{length, length-append, length-map, length-reverse}
 use Rattle.table.specs.Table.{Entry, tableOf, dataTypeOf}
 use Rattle.basics.proofs.Every.{every-member}
-use Rattle.tag_parse.specs.Header.{readHeader}
-use Rattle.tag_parse.specs.declared.types.ReadHeader.the-variants as header
-use Rattle.tag_parse.specs.declared.types.TagHeader.{TagHeader}
+use Rattle.tag_parse.proofs.Headers.{header-spec}
 use Rattle.tag_parse.specs.declared.types.TagValue.{TagValue}
 use Rattle.decoder_rules.specs.Record.{opens}
 use Rattle.decoder_rules.specs.Numbers.{errorNumber}
@@ -26,16 +24,15 @@ use Rattle.decoder_rules.specs.declared.types.Optional.the-variants.{Number}
 use Rattle.decoder_rules.specs.declared.types.Search.the-variants as search
 use Rattle.decoder_rules.specs.declared.types.TagDecoder.{TagDecoder}
 use Rattle.decoder_rules.specs.declared.types.WaitingEnd.{WaitingEnd}
-use Rattle.basics.proofs.Bools.{both, cond-yes, not-false}
+use Rattle.basics.proofs.Bools.{both, not-false}
 use Rattle.decoder_rules.proofs.MoveEffects.{opens-length, waits-length}
 use Rattle.decoder_rules.specs.Settings.{isFinished}
 use Rattle.guarantees.specs.Calls.{Call, decoding, ending, recovering, allow, limit, lent, Response, answered, searched, silent, responseTo, recordAfter, history, Lent, refusalOf}
-use Rattle.guarantees.specs.Settling.{hasSettled, seenParents}
 use Rattle.guarantees.specs.History.{Started, declaredEnd, afterResponse, afterDeclared, startsOpen, startsDeclared, parentsLeft, position, testAfter, childTestOn, childTestNeverOff, isNoRecovery, neverRecovered}
-use Rattle.guarantees.specs.Promises.{eventKind, eventId, elementOffset, Runs, lastResponse, Answers, openAt, leftAt, positionAt, EndMatches, EndsInside}
-use Rattle.guarantees.proofs.Tied.{parentOf, asEnd, asStarted, stack, Tied, none-open}
+use Rattle.guarantees.specs.Promises.{eventKind, eventId, elementOffset, Runs, lastResponse, Answers, openAt, leftAt, positionAt, HeaderOf, HeaderAlone, WholeData, EndMatches, EndsInside}
+use Rattle.guarantees.proofs.Tied.{parentOf, asEnd, asStarted, stack, Tied}
 use Rattle.guarantees.proofs.Steps.{reachesTo, allReach, Ends, ElementFacts, EventFacts, RefusalFacts, no-starts}
-use Rattle.guarantees.proofs.AnyCalls.{ResponseFacts, MeasuredResponse, settled-after, tied-after, promised-after, test-after}
+use Rattle.guarantees.proofs.AnyCalls.{ResponseFacts, MeasuredResponse, tied-after, promised-after, test-after}
 
 -- ---- the refusals
 
@@ -136,29 +133,16 @@ module _ (es ps : List ℕ) (cs : List Call) (c : Call) (run : Runs es ps (c ∷
   pub end-matches : (end : WaitingEnd) → Answers es ps cs c (answer.Event (event.End end)) → EndMatches (openAt es ps cs) (leftAt es ps cs c) end
   end-matches end a = facts _ (a .1) .1
 
-  -- parents are implied only where no Start is open and no parent is left, so before all Starts
-  pub implied-first : (seenParents ps (tableOf es ps) (history es ps cs) (lent c) (lastResponse es ps cs c) ≡ [] → ⊥)
-      → (openAt es ps cs ≡ []) × (parentsLeft ps (tableOf es ps) (history es ps cs) ≡ [])
-  unfolding Lent
-  implied-first some = go (recordAfter es ps cs .settled) refl
-    where
-      k : Tied (tableOf es ps) (recordAfter es ps cs) (openAt es ps cs) (parentsLeft ps (tableOf es ps) (history es ps cs)) (positionAt es ps cs)
-      k = tied-after es ps (run .checked) cs (run .octets .1)
-
-      go : (b : Bool) → recordAfter es ps cs .settled ≡ b → (openAt es ps cs ≡ []) × (parentsLeft ps (tableOf es ps) (history es ps cs) ≡ [])
-      go true u = absurd (some (cond-yes (hasSettled (tableOf es ps) (history es ps cs)) [] _ (sym (settled-after es ps (run .checked) cs (run .octets .1)) ∙ u)))
-      go false u = none-open (openAt es ps cs) (parentsLeft ps (tableOf es ps) (history es ps cs)) (k .linked .unsettled u)
-
-  -- and the offset of a Start or a Data is the position, the count of all bytes taken before it
+  -- the offset of a Start or a Data is the position, the count of all bytes taken before it
   pub offset-is-position : (e : Event) (o : ℕ) → elementOffset e ≡ Number o → Answers es ps cs c (answer.Event e) → o ≡ positionAt es ps cs
   offset-is-position e o i a = element-of (tableOf es ps) (recordAfter es ps cs .settings .«allow_oversized») (lent c) (openAt es ps cs) (leftAt es ps cs c) (positionAt es ps cs) e o (facts _ (a .1)) i .offset
 
   -- the element is the one whose header stands at the front of the bytes lent, so that `declaredEnd` of them is its end
-  pub element-header : (e : Event) (o : ℕ) → elementOffset e ≡ Number o → Answers es ps cs c (answer.Event e)
-      → (h : TagHeader) × (readHeader (tableOf es ps) (lent c) ≡ header.Header h) × (h .id ≡ eventId e)
+  pub element-header : (e : Event) (o : ℕ) → elementOffset e ≡ Number o → Answers es ps cs c (answer.Event e) → HeaderOf (tableOf es ps) (lent c) e
   element-header e o i a =
       let f = element-of (tableOf es ps) (recordAfter es ps cs .settings .«allow_oversized») (lent c) (openAt es ps cs) (leftAt es ps cs c) (positionAt es ps cs) e o (facts _ (a .1)) i .heads in
-      (f .its, f .is-read, f .same-id)
+      let k : f .its .kind ≡ dataTypeOf (tableOf es ps) (eventId e) = header-spec (tableOf es ps) (lent c) (f .its) (f .is-read) .kind ∙ ap (dataTypeOf (tableOf es ps)) (f .same-id) in
+      record { its = f .its; read = f .is-read; same-id = f .same-id; same-kind = k ∙ sym (kind-of-table e a) }
 
   -- 4. When the finish is answered, every Start has had its End.
   pub finish-closes : Answers es ps cs c answer.Finished → openAt es ps cs ≡ []
@@ -184,11 +168,17 @@ module _ (es ps : List ℕ) (cs : List Call) (c : Call) (run : Runs es ps (c ∷
       → Answers es ps cs c (answer.Event e) → declaredEnd (tableOf es ps) o (lent c) ≡ Number end → EndsInside end (startsDeclared (tableOf es ps) (history es ps cs))
   element-ends-inside on none e o end i a k = subst (EndsInside end) (declared-so es ps cs none) (ends-inside (never-off-on cs on) e o end i a k)
 
-  -- a Data is always of known size, and the call takes it whole
-  pub data-whole : (x o n : ℕ) (v : TagValue) → lastResponse es ps cs c ≡ answered (answer.Event (event.Data x o v)) n → declaredEnd (tableOf es ps) o (lent c) ≡ Number (o + n)
-  data-whole x o n v q =
-      let m : MeasuredResponse (tableOf es ps) (lent c) (positionAt es ps cs) (answered (answer.Event (event.Data x o v)) n) = subst (MeasuredResponse (tableOf es ps) (lent c) (positionAt es ps cs)) q (promised-after es ps cs c run .measured) in
-      subst (λ (p : ℕ). declaredEnd (tableOf es ps) p (lent c) ≡ Number (p + n)) (sym (offset-is-position (event.Data x o v) o refl (n, q))) m
+  -- what was measured of the last call
+  measured : (x : Response) → lastResponse es ps cs c ≡ x → MeasuredResponse (tableOf es ps) (lent c) (positionAt es ps cs) x
+  measured x q = subst (MeasuredResponse (tableOf es ps) (lent c) (positionAt es ps cs)) q (promised-after es ps cs c run .measured)
+
+  -- a Start takes its header and nothing more
+  pub start-takes-header : (x o n : ℕ) → lastResponse es ps cs c ≡ answered (answer.Event (event.Start x o)) n → HeaderAlone (tableOf es ps) (lent c) n
+  start-takes-header x o n q = measured _ q
+
+  -- a Data lay whole in the bytes lent, and is taken whole
+  pub data-whole : (x o n : ℕ) (v : TagValue) → lastResponse es ps cs c ≡ answered (answer.Event (event.Data x o v)) n → WholeData (tableOf es ps) (lent c) o n v
+  data-whole x o n v q = subst (λ (p : ℕ). WholeData (tableOf es ps) (lent c) p n v) (sym (offset-is-position (event.Data x o v) o refl (n, q))) (measured _ q)
 
   -- 19 comes only where 32 masters are open, the implied parents with them
   pub at-19-full : refusalOf (lastResponse es ps cs c) ≡ 19 → length (openAt es ps cs) + length (leftAt es ps cs c) ≡ 32

@@ -10,6 +10,8 @@ pub mod Recovery
 pub mod ImpliedParentsVisible
 pub mod AnyCalls
 pub mod Guarantees
+pub mod ImpliedFirst
+pub mod Results
 pub mod Finish
 pub mod Cut
 pub mod Nested

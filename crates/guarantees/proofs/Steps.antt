@@ -50,7 +50,7 @@ use Rattle.decoder_move.specs.Applies.{ActionApplies}
 use Rattle.decoder_move.proofs.DecisionApplies.{decide-applies, hands-out, closes, starts as start-fits, passes-on}
 use Rattle.guarantees.specs.Settling.{impliedBy}
 use Rattle.guarantees.specs.History.{Started, declaredEnd, endAfter, afterAnswer, outermostEnd, leftByAnswer, leftByEnd}
-use Rattle.guarantees.specs.Promises.{valueKind, EndMatches}
+use Rattle.guarantees.specs.Promises.{valueKind, HeaderAlone, WholeData, EndMatches}
 use Rattle.guarantees.proofs.Ends.{knownEnd, endedBy, every-reversed}
 use Rattle.guarantees.proofs.Decided.{is-master, Mild, Reading, InsideSize, Small, Heads, Starts, Holds, Closes, Facts, NoteFacts, AllFacts, decide-facts}
 use Rattle.guarantees.proofs.Tied.{asStarted, parentOf, asEnd, stack, allEnded, Linked, Tied, both-empty}
@@ -108,11 +108,11 @@ Quiet answer.NeedMore n d = (n ≡ 0) × (d .«waiting_count» ≡ 0)
 Quiet answer.Finished n d = (n ≡ 0) × (d .«waiting_count» ≡ 0) × (d .finished ≡ true)
 Quiet (answer.Refused r) n d = Unit {0}
 
--- a Data takes its element whole
+-- a Start takes its header alone, a Data its element whole
 abbrev pub MeasuredEvent : List Entry → List ℕ → ℕ → Event → ℕ → Type 0
-MeasuredEvent t s p (event.Start x o) n = Unit {0}
+MeasuredEvent t s p (event.Start x o) n = HeaderAlone t s n
 MeasuredEvent t s p (event.End end) n = Unit {0}
-MeasuredEvent t s p (event.Data x o v) n = declaredEnd t p s ≡ Number (p + n)
+MeasuredEvent t s p (event.Data x o v) n = WholeData t s p n v
 
 -- the same of an answer
 abbrev pub Measured : List Entry → List ℕ → ℕ → Answer → ℕ → Type 0
@@ -285,7 +285,7 @@ module _ (t : List Entry) (d : TagDecoder) (s : List ℕ) (starts : List Started
       record {
         promised = (f .master, record { heads = f .heads; offset = refl; inside = rw (f .end) (ends-inside z len (f .reading .none-waiting) (f .inside)) });
         quiet = tt;
-        measured = tt;
+        measured = f .alone;
         batch = tt;
         tied = record {
           linked = subst (λ (o : Started). Linked t (opened e m) (o ∷ starts) left (d .position + len)) is
@@ -305,7 +305,7 @@ module _ (t : List Entry) (d : TagDecoder) (s : List ℕ) (starts : List Started
       record {
         promised = (f .kind, record { heads = f .heads; offset = refl; inside = rw (f .end) inside-all });
         quiet = tt;
-        measured = f .end;
+        measured = f .whole;
         batch = tt;
         tied = record {
           linked = moved-linked t d starts left (d .position) (k .linked) (d .position + n) (d .finished) (omega arith) near;

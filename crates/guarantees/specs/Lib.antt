@@ -2,4 +2,5 @@ pub mod Calls
 pub mod Settling
 pub mod History
 pub mod Promises
+pub mod Results
 pub mod Demand3

@@ -1,13 +1,21 @@
 -- The promises of demand 3 as statements over any calls on a fresh decoder: each speaks of the last of the calls,
 -- whatever the calls before it were.
-use Prim.Native.Nat.{ℕ, zero, suc, _≤_, _<_}
+use Prim.Native.Nat.{ℕ, zero, suc, _+_, _≤_, _<_}
 use mathlib.Core.Path.{_≡_}
+use mathlib.Core.Bool.{Bool, true, false, not, _&&_}
 use mathlib.Core.List.{List, [], _∷_, _++_, List·Memᴰ}
-use Rattle.table.specs.Check.{checkTable}
-use Rattle.table.specs.Table.{tableOf}
+use lib.ListN.{length, take, drop}
+use Rattle.table.specs.Check.{checkTable, onlyIds}
+use Rattle.table.specs.Table.{Entry, tableOf, dataTypeOf, pathOf, isTyped}
 use Rattle.table.specs.declared.types.Checked.the-variants.{Passed}
 use Rattle.table.specs.declared.types.TagDataType.{TagDataType}
 use Rattle.table.specs.declared.types.TagDataType.the-variants as type
+use Rattle.tag_parse.specs.Header.{readHeader}
+use Rattle.tag_parse.specs.Payload.{readData}
+use Rattle.tag_parse.specs.declared.types.EBMLSize.the-variants.{Known}
+use Rattle.tag_parse.specs.declared.types.ReadData.the-variants.{Value}
+use Rattle.tag_parse.specs.declared.types.ReadHeader.the-variants.{Header}
+use Rattle.tag_parse.specs.declared.types.TagHeader.{TagHeader}
 use Rattle.tag_parse.specs.declared.types.TagValue.{TagValue}
 use Rattle.tag_parse.specs.declared.types.TagValue.the-variants as value
 use Rattle.decoder_rules.specs.Numbers.{errorNumber}
@@ -19,7 +27,7 @@ use Rattle.decoder_rules.specs.declared.types.Event.the-variants as event
 use Rattle.decoder_rules.specs.declared.types.Optional.{Optional}
 use Rattle.decoder_rules.specs.declared.types.Optional.the-variants.{Nothing, Number}
 use Rattle.decoder_rules.specs.declared.types.WaitingEnd.{WaitingEnd}
-use Rattle.guarantees.specs.Calls.{lent, Call, ending, Response, answered, responseTo, recordAfter, history, Lent}
+use Rattle.guarantees.specs.Calls.{lent, Call, ending, Response, answered, searched, silent, Step, responseTo, recordAfter, history, Lent}
 use Rattle.guarantees.specs.Settling.{seenParents}
 use Rattle.guarantees.specs.History.{Started, startsOpen, parentsLeft, position}
 
@@ -80,6 +88,52 @@ leftAt es ps cs c = seenParents ps (tableOf es ps) (history es ps cs) (lent c) (
 -- the position after these calls
 abbrev pub positionAt : List ℕ → List ℕ → List Call → ℕ
 positionAt es ps cs = position (history es ps cs)
+
+-- ---- elements
+
+-- the header at the front of the bytes s is that of the event e: it reads as e's ID, of e's kind
+pub record HeaderOf (t : List Entry) (s : List ℕ) (e : Event) : Type 0 where
+  pub its : TagHeader
+  pub read : readHeader t s ≡ Header its
+  pub same-id : its .id ≡ eventId e
+  pub same-kind : its .kind ≡ eventKind e
+
+-- n bytes are the header at the front of the bytes s, and no more than that
+pub record HeaderAlone (t : List Entry) (s : List ℕ) (n : ℕ) : Type 0 where
+  pub its : TagHeader
+  pub read : readHeader t s ≡ Header its
+  pub no-more : n ≡ its .len
+
+-- n bytes at the front of s are one whole element at offset o: a header of known size and as much payload as it says,
+-- of which v is the value; a range in v is the payload's place in the stream
+pub record WholeData (t : List Entry) (s : List ℕ) (o n : ℕ) (v : TagValue) : Type 0 where
+  pub its : TagHeader
+  pub read : readHeader t s ≡ Header its
+  pub size : ℕ
+  pub known : its .size ≡ Known size
+  pub count : n ≡ its .len + size
+  pub within : n ≤ length s
+  pub value : readData (its .kind) (take size (drop (its .len) s)) (record { begin = o + its .len; end = o + n }) ≡ Value v
+
+-- an event that settles nothing: a Data whose ID has no type, or a Global in its path
+abbrev pub isLoose : List Entry → Event → Bool
+isLoose t (event.Start x o) = false
+isLoose t (event.End end) = false
+isLoose t (event.Data x o v) = not (isTyped (dataTypeOf t x) && onlyIds (pathOf t x))
+
+-- the same of any answer: it is no other event
+abbrev pub answersLoose : List Entry → Response → Bool
+answersLoose t (answered (answer.Event e) n) = isLoose t e
+answersLoose t (answered answer.NeedMore n) = true
+answersLoose t (answered answer.Finished n) = true
+answersLoose t (answered (answer.Refused r) n) = true
+answersLoose t (searched a n) = true
+answersLoose t silent = true
+
+-- every event of this history is such a Data, so that no Start and no End came
+unfoldable pub onlyLoose : List Entry → List Step → Bool
+onlyLoose t [] = true
+onlyLoose t (s ∷ h) = answersLoose t (s .told) && onlyLoose t h
 
 -- ---- 3
 
