@@ -67,8 +67,8 @@ unfolding every
 parents-unknown [] = refl
 parents-unknown (x ∷ left) = parents-unknown left
 
--- it is one of the list
-outermost-member : (l : List Started) (f p : ℕ) → outermostEnd l ≡ Number f → p < f → NotFull l p
+-- one whose end is beyond p is one of the list that is not full
+pub outermost-member : (l : List Started) (f p : ℕ) → outermostEnd l ≡ Number f → p < f → NotFull l p
 unfolding outermostEnd
 outermost-member [] f p e h = let z : _≡_ {A = ℕ} 0 1 = cc in absurd (omega arith)
 outermost-member (m ∷ l) f p e h = go (outermostEnd l) refl e (λ q. outermost-member l f p q h)

@@ -19,7 +19,8 @@ unfoldable pub lending : List ℕ → List ℕ → List Call → List Call
 lending [] s made = made
 lending (n ∷ taken) s made = lending taken (drop n s) (ending s ∷ made)
 
-abbrev d1 : List ℕ
+-- D1
+abbrev pub d1 : List ℕ
 d1 = 0x4E ∷ 0x01 ∷ 0x89 ∷ 0xA1 ∷ 0x87 ∷ 0xA2 ∷ 0x81 ∷ 0x78 ∷ 0xA3 ∷ 0x82 ∷ 0x6D ∷ 0x6C ∷ []
 
 abbrev d2 : List ℕ
@@ -28,7 +29,8 @@ d2 = 0x4E ∷ 0x01 ∷ 0xFF ∷ 0xA1 ∷ 0xFF ∷ 0xA2 ∷ 0x81 ∷ 0x78 ∷ []
 abbrev d5 : List ℕ
 d5 = 0xA2 ∷ 0x81 ∷ 0x78 ∷ []
 
-abbrev bench : List Entry
+-- the bench table
+abbrev pub bench : List Entry
 bench = tableOf benchEntries benchParts
 
 -- what a caller can tell after these calls: the Starts that are open, the implied parents that are left, and the

@@ -16,6 +16,13 @@ pub mod Finish
 pub mod Cut
 pub mod Nested
 pub mod CutRecord
+pub mod FullEnds
+pub mod InOrder
+pub mod CutRoot
+pub mod TopLevel
+pub mod WholeElements
+pub mod CutRecords
+pub mod CutExamples
 pub mod Demand3
 pub mod EmptyPlaces
 pub mod Needed

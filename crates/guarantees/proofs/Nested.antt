@@ -86,7 +86,8 @@ nested-after es ps (c ∷ cs) run on =
 
 -- ---- so the outermost ends last
 
-reaches-outermost : (e : ℕ) (l : List Started) → allReach e l ≡ true → reachesTo e (outermostEnd l) ≡ true
+-- what ends inside all of these ends inside the outermost of known size
+pub reaches-outermost : (e : ℕ) (l : List Started) → allReach e l ≡ true → reachesTo e (outermostEnd l) ≡ true
 unfolding every outermostEnd
 reaches-outermost e [] h = refl
 reaches-outermost e (m ∷ l) h =

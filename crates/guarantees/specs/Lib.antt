@@ -3,4 +3,5 @@ pub mod Settling
 pub mod History
 pub mod Promises
 pub mod Results
+pub mod CutRecords
 pub mod Demand3
