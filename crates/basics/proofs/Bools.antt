@@ -1,6 +1,6 @@
 -- Laws of tests: what a test picks, two tests at once, and what an absurd equation gives. Assumes nothing.
 use Prim.Native.Nat.{ℕ}
-use mathlib.Core.Path.{_≡_, refl}
+use mathlib.Core.Path.{_≡_, refl, sym}
 use mathlib.Core.Bool.{Bool, true, false, cond, not, _&&_, _||_, false≢true}
 use native.Mathlib.Omega.{arith}
 
@@ -50,6 +50,12 @@ or-some false = refl
 pub not-false : (b : Bool) → not b ≡ true → b ≡ false
 not-false true e = absurd (false≢true e)
 not-false false e = refl
+
+-- two tests are one where each is passed if the other is
+pub same-truth : (a b : Bool) → (a ≡ true → b ≡ true) → (b ≡ true → a ≡ true) → a ≡ b
+same-truth true b to from = sym (to refl)
+same-truth false true to from = from refl
+same-truth false false to from = refl
 
 -- two constructors are never equal: `cc` turns such an equation into 0 ≡ 1, and anything follows
 pub absurd-eq : {A : Type 0} → _≡_ {A = ℕ} 0 1 → A

@@ -3,7 +3,8 @@
 use Rattle.table.proofs.Computing.{tableComputes}
 use Rattle.spec_util.specs.Ended.{isIdOf, hasId, isParent, isSibling, isTypedRoot, isEndedBy}
 use Rattle.spec_util.specs.Walk.{overMax, underMin, isIdAt, walkGlobal, walkAt, walkPart, unknownAndEnded, walkMaster, minMet, walkEnd, goOn, walkFrom, validateTagPath, mastersShown}
+use Rattle.spec_util.specs.Rfc8794.{inBounds, passesAfter, pathNames, globalOnlyLast, staysOpen, lastPart, isEndedByRfc, untypedAtRoot}
 
 unfoldable pub walksCompute : Unit {0}
-unfolding tableComputes isIdOf hasId isParent isSibling isTypedRoot isEndedBy overMax underMin isIdAt walkGlobal walkAt walkPart unknownAndEnded walkMaster minMet walkEnd goOn walkFrom validateTagPath mastersShown
+unfolding tableComputes isIdOf hasId isParent isSibling isTypedRoot isEndedBy overMax underMin isIdAt walkGlobal walkAt walkPart unknownAndEnded walkMaster minMet walkEnd goOn walkFrom validateTagPath mastersShown inBounds passesAfter pathNames globalOnlyLast staysOpen lastPart isEndedByRfc untypedAtRoot
 walksCompute = tt

@@ -20,11 +20,12 @@ k id = open-as true id
 abbrev u : ℕ → OpenTag
 u id = open-as false id
 
--- 81 and 82 are Masters; 83 has 1 to 2 masters and then 82 above it; 84 has at least 2; 85 at most 1
-abbrev globals : List Entry
+-- 81 and 82 are Masters; 83 has 1 to 2 masters and then 82 above it, 84 at least 2, 85 at most 1; 86 has two Globals
+-- side by side
+abbrev pub globals : List Entry
 globals =
-    tableOf (0x81 ∷ 0 ∷ 0 ∷ 0 ∷ 0x82 ∷ 0 ∷ 0 ∷ 0 ∷ 0x83 ∷ 1 ∷ 0 ∷ 2 ∷ 0x84 ∷ 1 ∷ 2 ∷ 1 ∷ 0x85 ∷ 1 ∷ 3 ∷ 1 ∷ [])
-    (1 ∷ 2 ∷ 3 ∷ 0 ∷ 0x82 ∷ 0 ∷ 1 ∷ 3 ∷ 0 ∷ 1 ∷ 0 ∷ 2 ∷ [])
+    tableOf (0x81 ∷ 0 ∷ 0 ∷ 0 ∷ 0x82 ∷ 0 ∷ 0 ∷ 0 ∷ 0x83 ∷ 1 ∷ 0 ∷ 2 ∷ 0x84 ∷ 1 ∷ 2 ∷ 1 ∷ 0x85 ∷ 1 ∷ 3 ∷ 1 ∷ 0x86 ∷ 4 ∷ 4 ∷ 2 ∷ [])
+    (1 ∷ 2 ∷ 3 ∷ 0 ∷ 0x82 ∷ 0 ∷ 1 ∷ 3 ∷ 0 ∷ 1 ∷ 0 ∷ 2 ∷ 1 ∷ 0 ∷ 0 ∷ 1 ∷ 0 ∷ 0 ∷ [])
 
 pub record Ended : Type 0 where
   pub by-parent : isEndedBy bench 0xA2 0x4E01 ≡ true

@@ -1,6 +1,9 @@
 pub mod Walking
 pub mod Shown
 pub mod Endings
+pub mod WalkByRfc
+pub mod EndsByRfc
 pub mod Unique
 pub mod Examples
+pub mod RfcExamples
 pub mod Computing

@@ -1,2 +1,3 @@
 pub mod Ended
 pub mod Walk
+pub mod Rfc8794

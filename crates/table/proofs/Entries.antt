@@ -2,6 +2,7 @@
 -- that an entry's range holds its path. Assumes nothing.
 use Prim.Native.Nat.{ℕ, zero, suc, _+_, _*_, _/_, _≤_, _<_, min}
 use mathlib.Core.Path.{_≡_, refl, sym, ap, _∙_}
+use mathlib.Core.Bool.{true, false, true≢false}
 use mathlib.Core.List.{List, [], _∷_}
 use borrow.Author.Tests.{eq-eqb, ne-eqb, lt-ltb, le-ltb}
 use native.Mathlib.Decide.{decLe}
@@ -10,10 +11,11 @@ use native.Mathlib.Omega.{arith}
 use lib.Dec.{eqb, ltb}
 use lib.ListN.{length, getD, take, drop, length-drop, List·getD-eq-default}
 use lib.Seq.{take-nil, getD-take, length-take-le}
-use Rattle.table.specs.Table.{Entry, partsOf, partsIn, clipped, entryOf, tableOf, unlisted, entryFor, pathOf, rangeOf, FirstWith}
+use Rattle.table.specs.Table.{Entry, partsOf, partsIn, kindOf, isTyped, clipped, entryOf, tableOf, unlisted, entryFor, dataTypeOf, pathOf, rangeOf, FirstWith}
 use Rattle.basics.specs.Lists.{any}
 use Rattle.table.specs.Check.{listed}
 use Rattle.table.specs.declared.types.Path.{Path}
+use Rattle.table.specs.declared.types.TagDataType.{TagDataType}
 use Rattle.basics.proofs.Every.{any-at, any-of-none}
 use Rattle.basics.proofs.Bools.{either}
 use Rattle.table.proofs.Words.{length-fours, fours-at}
@@ -114,3 +116,22 @@ module _ (es ps : List ℕ) where
 
   pub path-of : (id : ℕ) {r : Path} → r ≡ rangeOf (tableOf es ps) id → partsIn (partsOf ps) r ≡ pathOf (tableOf es ps) id
   path-of id q = rw q (path-in id)
+
+-- ---- an ID that is not in the table
+
+-- an entry's type word is a type
+word-typed : (word : ℕ) → isTyped (kindOf word) ≡ true
+unfolding kindOf isTyped
+word-typed word =
+    let typed : TagDataType → Type 0 = λ k. isTyped k ≡ true in
+    either typed (eqb word 0) _ _ refl (either typed (eqb word 1) _ _ refl (either typed (eqb word 2) _ _ refl (either typed (eqb word 3) _ _ refl (either typed (eqb word 4) _ _ refl refl))))
+
+-- an ID without a type has the empty path
+pub untyped-path : (es ps : List ℕ) (id : ℕ) → isTyped (dataTypeOf (tableOf es ps) id) ≡ false → pathOf (tableOf es ps) id ≡ []
+unfolding isTyped entryOf
+untyped-path es ps id =
+    for-every (λ e. isTyped (e .kind) ≡ false → e .path ≡ []) (tableOf es ps) (λ u. refl)
+    (λ i h u. absurd (true≢false (sym (typed-at i (rw (length-table es ps) at h)) ∙ u))) id
+  where
+    typed-at : (i : ℕ) → i < length es / 4 → isTyped (getD (tableOf es ps) i unlisted .kind) ≡ true
+    typed-at i h = rw (table-at es ps i h) (word-typed (getD es (4 * i + 1) 0))

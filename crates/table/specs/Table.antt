@@ -50,6 +50,12 @@ partsOf ws = threes partOf ws
 abbrev pub partsIn : List PathPart → Path → List PathPart
 partsIn ps p = take (p .count) (drop (p .first) ps)
 
+-- the IDs that a path names, outermost first; a Global names none
+unfoldable pub pathIds : List PathPart → List ℕ
+pathIds [] = []
+pathIds (Id x ∷ path) = x ∷ pathIds path
+pathIds (Global least most ∷ path) = pathIds path
+
 -- two bounds are equal as values
 unfoldable pub sameBound : Bound → Bound → Bool
 sameBound NotGiven NotGiven = true
