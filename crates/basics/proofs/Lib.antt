@@ -4,3 +4,4 @@ pub mod Loops
 pub mod Sums
 pub mod ArrayOf32
 pub mod Computing
+pub mod Unique

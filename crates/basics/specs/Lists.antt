@@ -1,7 +1,8 @@
--- Tests over the elements of a list, and a list in an array of 32 places.
-use Prim.Native.Nat.{ℕ, _+_, _-_}
+-- Tests over the elements of a list, proper prefixes, and a list in an array of 32 places.
+use Prim.Native.Nat.{ℕ, _+_, _-_, _<_}
 use mathlib.Core.Bool.{Bool, true, false, cond, _&&_, _||_}
 use mathlib.Core.List.{List, [], _∷_, _++_}
+use mathlib.Core.Path.{_≡_}
 use lib.ListN.{length, replicate}
 
 -- each element passes
@@ -18,6 +19,13 @@ any test (a ∷ l) = test a || any test l
 unfoldable pub firstIndex : {A : Type 0} → (A → Bool) → List A → ℕ
 firstIndex test [] = 0
 firstIndex test (a ∷ l) = cond (test a) 0 (firstIndex test l + 1)
+
+-- s is the front of l, and not all of it: something is missing behind it. The empty list is a proper prefix of every
+-- other.
+pub record ProperPrefix {A : Type 0} (s l : List A) : Type 0 where
+  pub missing : List A
+  pub some : 0 < length missing
+  pub joined : s ++ missing ≡ l
 
 -- the places of the arrays of a decoder's record
 abbrev pub arrayPlaces : ℕ
