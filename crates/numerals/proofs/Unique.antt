@@ -1,12 +1,15 @@
 -- No second answer meets a contract, as the checker reads it: two places, and two lists of lent bytes at exit, that the
 -- contract allows for the same arguments are equal. Assumes nothing.
-use Prim.Native.Nat.{ℕ}
-use mathlib.Core.Path.{_≡_}
+use Prim.Native.Nat.{ℕ, _+_}
+use mathlib.Core.Path.{_≡_, ap₂}
 use mathlib.Core.List.{List}
 use borrow.Fn.Kinds.{Dens}
 use contract.Lifetimes.{Lfts}
 use denote.Ref.{now}
-use Rattle.tools.proofs.Unique.{same}
+use lib.ListN.{length}
+use lib.Seq.{sets}
+use Rattle.basics.specs.Unique.{OneAnswer, answerAnd}
+use Rattle.basics.proofs.Unique.{one-answer}
 use Rattle.numerals.specs.Puts.{Puts}
 use Rattle.numerals.proofs.put.Reads as put
 use Rattle.numerals.proofs.put.Kinds as put-kinds
@@ -19,26 +22,21 @@ use Rattle.numerals.proofs.put_decimal.Kinds as put-decimal-kinds
 use Rattle.numerals.proofs.put_signed.Reads as put-signed
 use Rattle.numerals.proofs.put_signed.Kinds as put-signed-kinds
 
--- the general law
-pub puts-same : {most r r' at : ℕ} {o o' o₀ s : List ℕ} → Puts most r o o₀ at s → Puts most r' o' o₀ at s → (r ≡ r') × (o ≡ o')
-puts-same p q = (same (p .place) (q .place), same (p .bytes) (q .bytes))
+-- what `Puts` fixes, as a pair
+put-there : {most r at : ℕ} {o o₀ s : List ℕ} → Puts most r o o₀ at s → _≡_ {A = ℕ × List ℕ} (r, o) (at + length s, sets o₀ at s)
+put-there p = ap₂ (λ r o. (r, o)) (p .place) (p .bytes)
 
-pub put-one : (κs : Lfts 1) (a : Dens κs put-kinds.ps) (r r' : ℕ) (e e' : _) → put.Post κs a r e → put.Post κs a r' e'
-    → (r ≡ r') × (now (e .1 .0) ≡ now (e' .1 .0))
-put-one κs a r r' e e' p q = puts-same p q
+pub put-one : (κs : Lfts 1) (a : Dens κs put-kinds.ps) → OneAnswer (put.Post κs a) (answerAnd (λ e. now (e .1 .0)))
+put-one κs a = one-answer (λ r e p. put-there p)
 
-pub put-hex-one : (κs : Lfts 1) (a : Dens κs put-hex-kinds.ps) (r r' : ℕ) (e e' : _) → put-hex.Post κs a r e → put-hex.Post κs a r' e'
-    → (r ≡ r') × (now (e .1 .0) ≡ now (e' .1 .0))
-put-hex-one κs a r r' e e' p q = puts-same p q
+pub put-hex-one : (κs : Lfts 1) (a : Dens κs put-hex-kinds.ps) → OneAnswer (put-hex.Post κs a) (answerAnd (λ e. now (e .1 .0)))
+put-hex-one κs a = one-answer (λ r e p. put-there p)
 
-pub put-hex16-one : (κs : Lfts 1) (a : Dens κs put-hex16-kinds.ps) (r r' : ℕ) (e e' : _) → put-hex16.Post κs a r e → put-hex16.Post κs a r' e'
-    → (r ≡ r') × (now (e .1 .0) ≡ now (e' .1 .0))
-put-hex16-one κs a r r' e e' p q = puts-same p q
+pub put-hex16-one : (κs : Lfts 1) (a : Dens κs put-hex16-kinds.ps) → OneAnswer (put-hex16.Post κs a) (answerAnd (λ e. now (e .1 .0)))
+put-hex16-one κs a = one-answer (λ r e p. put-there p)
 
-pub put-decimal-one : (κs : Lfts 1) (a : Dens κs put-decimal-kinds.ps) (r r' : ℕ) (e e' : _) → put-decimal.Post κs a r e → put-decimal.Post κs a r' e'
-    → (r ≡ r') × (now (e .1 .0) ≡ now (e' .1 .0))
-put-decimal-one κs a r r' e e' p q = puts-same p q
+pub put-decimal-one : (κs : Lfts 1) (a : Dens κs put-decimal-kinds.ps) → OneAnswer (put-decimal.Post κs a) (answerAnd (λ e. now (e .1 .0)))
+put-decimal-one κs a = one-answer (λ r e p. put-there p)
 
-pub put-signed-one : (κs : Lfts 1) (a : Dens κs put-signed-kinds.ps) (r r' : ℕ) (e e' : _) → put-signed.Post κs a r e → put-signed.Post κs a r' e'
-    → (r ≡ r') × (now (e .1 .0) ≡ now (e' .1 .0))
-put-signed-one κs a r r' e e' p q = puts-same p q
+pub put-signed-one : (κs : Lfts 1) (a : Dens κs put-signed-kinds.ps) → OneAnswer (put-signed.Post κs a) (answerAnd (λ e. now (e .1 .0)))
+put-signed-one κs a = one-answer (λ r e p. put-there p)

@@ -1,17 +1,9 @@
--- No second answer satisfies a contract: of each public routine, two answers that the contract, as Rattle reads it,
--- allows for the same arguments are equal. Assumes nothing.
-use Prim.Native.Nat.{ℕ}
-use mathlib.Core.Path.{_≡_}
-use mathlib.Core.Bool.{Bool}
-use mathlib.Core.List.{List}
+-- No second answer meets a contract, as the checker reads it: two answers that a public routine's contract allows for
+-- the same arguments, each at an exit of its own, are equal. Assumes nothing.
 use contract.Lifetimes.{Lfts}
 use borrow.Fn.Kinds.{Dens}
-use Rattle.tools.proofs.Unique.{same}
-use Rattle.table.specs.declared.types.TagDataType.{TagDataType}
-use Rattle.table.specs.declared.types.PathPart.{PathPart}
-use Rattle.table.specs.declared.types.Path.{Path}
-use Rattle.table.specs.declared.types.Spec.{Spec}
-use Rattle.table.specs.declared.types.Checked.{Checked}
+use Rattle.basics.specs.Unique.{OneAnswer, answer}
+use Rattle.basics.proofs.Unique.{one-answer}
 use Rattle.table.proofs.bench.entries.Kinds as entries-kinds
 use Rattle.table.proofs.bench.entries.Reads as entries
 use Rattle.table.proofs.bench.parts.Kinds as parts-kinds
@@ -45,66 +37,50 @@ use Rattle.table.proofs.check.only_ids.Reads as only-ids
 use Rattle.table.proofs.check.check_table.Kinds as check-table-kinds
 use Rattle.table.proofs.check.check_table.Reads as check-table
 
-pub entries-determined : (κs : Lfts 0) (a : Dens κs entries-kinds.ps) (r r' : List ℕ)
-    → ((e : _) → entries.Post κs a r e → entries.Post κs a r' e → r ≡ r')
-entries-determined κs a r r' e = same
+pub entries-one : (κs : Lfts 0) (a : Dens κs entries-kinds.ps) → OneAnswer (entries.Post κs a) answer
+entries-one κs a = one-answer (λ r e p. p)
 
-pub parts-determined : (κs : Lfts 0) (a : Dens κs parts-kinds.ps) (r r' : List ℕ)
-    → ((e : _) → parts.Post κs a r e → parts.Post κs a r' e → r ≡ r')
-parts-determined κs a r r' e = same
+pub parts-one : (κs : Lfts 0) (a : Dens κs parts-kinds.ps) → OneAnswer (parts.Post κs a) answer
+parts-one κs a = one-answer (λ r e p. p)
 
-pub part-at-determined : (κs : Lfts 1) (a : Dens κs part-at-kinds.ps) (r r' : PathPart)
-    → ((e : _) → part-at.Post κs a r e → part-at.Post κs a r' e → r ≡ r')
-part-at-determined κs a r r' e = same
+pub part-at-one : (κs : Lfts 1) (a : Dens κs part-at-kinds.ps) → OneAnswer (part-at.Post κs a) answer
+part-at-one κs a = one-answer (λ r e p. p)
 
-pub path-length-determined : (κs : Lfts 1) (a : Dens κs path-length-kinds.ps) (r r' : ℕ)
-    → ((e : _) → path-length.Post κs a r e → path-length.Post κs a r' e → r ≡ r')
-path-length-determined κs a r r' e = same
+pub path-length-one : (κs : Lfts 1) (a : Dens κs path-length-kinds.ps) → OneAnswer (path-length.Post κs a) answer
+path-length-one κs a = one-answer (λ r e p. p)
 
-pub path-part-determined : (κs : Lfts 1) (a : Dens κs path-part-kinds.ps) (r r' : PathPart)
-    → ((e : _) → path-part.Post κs a r e → path-part.Post κs a r' e → r ≡ r')
-path-part-determined κs a r r' e = same
+pub path-part-one : (κs : Lfts 1) (a : Dens κs path-part-kinds.ps) → OneAnswer (path-part.Post κs a) answer
+path-part-one κs a = one-answer (λ r e p. p)
 
-pub same-path-determined : (κs : Lfts 1) (a : Dens κs same-path-kinds.ps) (r r' : Bool)
-    → ((e : _) → same-path.Post κs a r e → same-path.Post κs a r' e → r ≡ r')
-same-path-determined κs a r r' e = same
+pub same-path-one : (κs : Lfts 1) (a : Dens κs same-path-kinds.ps) → OneAnswer (same-path.Post κs a) answer
+same-path-one κs a = one-answer (λ r e p. p)
 
-pub look-up-determined : (κs : Lfts 2) (a : Dens κs look-up-kinds.ps) (r r' : Spec)
-    → ((e : _) → look-up.Post κs a r e → look-up.Post κs a r' e → r ≡ r')
-look-up-determined κs a r r' e = same
+pub look-up-one : (κs : Lfts 2) (a : Dens κs look-up-kinds.ps) → OneAnswer (look-up.Post κs a) answer
+look-up-one κs a = one-answer (λ r e p. p)
 
-pub get-tag-data-type-determined : (κs : Lfts 2) (a : Dens κs get-tag-data-type-kinds.ps) (r r' : TagDataType)
-    → ((e : _) → get-tag-data-type.Post κs a r e → get-tag-data-type.Post κs a r' e → r ≡ r')
-get-tag-data-type-determined κs a r r' e = same
+pub get-tag-data-type-one : (κs : Lfts 2) (a : Dens κs get-tag-data-type-kinds.ps) → OneAnswer (get-tag-data-type.Post κs a) answer
+get-tag-data-type-one κs a = one-answer (λ r e p. p)
 
-pub get-path-by-id-determined : (κs : Lfts 2) (a : Dens κs get-path-by-id-kinds.ps) (r r' : Path)
-    → ((e : _) → get-path-by-id.Post κs a r e → get-path-by-id.Post κs a r' e → r ≡ r')
-get-path-by-id-determined κs a r r' e = same
+pub get-path-by-id-one : (κs : Lfts 2) (a : Dens κs get-path-by-id-kinds.ps) → OneAnswer (get-path-by-id.Post κs a) answer
+get-path-by-id-one κs a = one-answer (λ r e p. p)
 
-pub good-shape-determined : (κs : Lfts 2) (a : Dens κs good-shape-kinds.ps) (r r' : Bool)
-    → ((e : _) → good-shape.Post κs a r e → good-shape.Post κs a r' e → r ≡ r')
-good-shape-determined κs a r r' e = same
+pub good-shape-one : (κs : Lfts 2) (a : Dens κs good-shape-kinds.ps) → OneAnswer (good-shape.Post κs a) answer
+good-shape-one κs a = one-answer (λ r e p. p)
 
-pub rule-number-determined : (κs : Lfts 0) (a : Dens κs rule-number-kinds.ps) (r r' : ℕ)
-    → ((e : _) → rule-number.Post κs a r e → rule-number.Post κs a r' e → r ≡ r')
-rule-number-determined κs a r r' e = same
+pub rule-number-one : (κs : Lfts 0) (a : Dens κs rule-number-kinds.ps) → OneAnswer (rule-number.Post κs a) answer
+rule-number-one κs a = one-answer (λ r e p. p)
 
-pub checked-number-determined : (κs : Lfts 0) (a : Dens κs checked-number-kinds.ps) (r r' : ℕ)
-    → ((e : _) → checked-number.Post κs a r e → checked-number.Post κs a r' e → r ≡ r')
-checked-number-determined κs a r r' e = same
+pub checked-number-one : (κs : Lfts 0) (a : Dens κs checked-number-kinds.ps) → OneAnswer (checked-number.Post κs a) answer
+checked-number-one κs a = one-answer (λ r e p. p)
 
-pub is-master-determined : (κs : Lfts 0) (a : Dens κs is-master-kinds.ps) (r r' : Bool)
-    → ((e : _) → is-master.Post κs a r e → is-master.Post κs a r' e → r ≡ r')
-is-master-determined κs a r r' e = same
+pub is-master-one : (κs : Lfts 0) (a : Dens κs is-master-kinds.ps) → OneAnswer (is-master.Post κs a) answer
+is-master-one κs a = one-answer (λ r e p. p)
 
-pub is-typed-determined : (κs : Lfts 0) (a : Dens κs is-typed-kinds.ps) (r r' : Bool)
-    → ((e : _) → is-typed.Post κs a r e → is-typed.Post κs a r' e → r ≡ r')
-is-typed-determined κs a r r' e = same
+pub is-typed-one : (κs : Lfts 0) (a : Dens κs is-typed-kinds.ps) → OneAnswer (is-typed.Post κs a) answer
+is-typed-one κs a = one-answer (λ r e p. p)
 
-pub only-ids-determined : (κs : Lfts 1) (a : Dens κs only-ids-kinds.ps) (r r' : Bool)
-    → ((e : _) → only-ids.Post κs a r e → only-ids.Post κs a r' e → r ≡ r')
-only-ids-determined κs a r r' e = same
+pub only-ids-one : (κs : Lfts 1) (a : Dens κs only-ids-kinds.ps) → OneAnswer (only-ids.Post κs a) answer
+only-ids-one κs a = one-answer (λ r e p. p)
 
-pub check-table-determined : (κs : Lfts 2) (a : Dens κs check-table-kinds.ps) (r r' : Checked)
-    → ((e : _) → check-table.Post κs a r e → check-table.Post κs a r' e → r ≡ r')
-check-table-determined κs a r r' e = same
+pub check-table-one : (κs : Lfts 2) (a : Dens κs check-table-kinds.ps) → OneAnswer (check-table.Post κs a) answer
+check-table-one κs a = one-answer (λ r e p. p)

@@ -21,6 +21,7 @@ use Rattle.table.specs.Table.{Entry, specFor}
 use Rattle.table.specs.declared.types.TagDataType.{TagDataType}
 use Rattle.tag_parse.specs.Header.{idLength, readTagId, sizeOf, numeric, tooLong, sized, afterId, readHeader}
 use Rattle.tag_parse.specs.declared.types.ReadHeader.the-variants as header
+use Rattle.tag_parse.specs.declared.types.ReadTagId.{ReadTagId}
 use Rattle.tag_parse.specs.declared.types.ReadTagId.the-variants as id
 use Rattle.tag_parse.specs.declared.types.EBMLSize.the-variants as size
 
@@ -55,6 +56,27 @@ module _ (s : List ℕ) (some : length s ≡ 0 → ⊥) where
   pub id-whole : idLength (getD s 0 0) ≤ length s → readTagId s ≡ id.TagId (beNumber (take (idLength (getD s 0 0)) s)) (idLength (getD s 0 0))
   unfolding readTagId
   id-whole h = simp (ne-eqb _ _ some, le-ltb _ _ h)
+
+-- every way in which reading an ID goes, with the facts that hold there
+pub data ReadingId (s : List ℕ) : Type 0 where
+  no-byte : length s ≡ 0 → ReadingId s
+  too-few : (length s ≡ 0 → ⊥) → length s < idLength (getD s 0 0) → ReadingId s
+  all-there : (length s ≡ 0 → ⊥) → idLength (getD s 0 0) ≤ length s → ReadingId s
+
+pub reading-id : (s : List ℕ) → ReadingId s
+reading-id s = none-or (decLe 1 (length s))
+  where
+    whole-or : (length s ≡ 0 → ⊥) → Dec (idLength (getD s 0 0) ≤ length s) → ReadingId s
+    whole-or some (yes h) = all-there some h
+    whole-or some (no f) = too-few some (omega arith)
+
+    none-or : Dec (1 ≤ length s) → ReadingId s
+    none-or (yes h) = whole-or (λ z. omega arith) (decLe (idLength (getD s 0 0)) (length s))
+    none-or (no f) = no-byte (omega arith)
+
+-- an ID that was read asks for no more
+pub not-more : {r : ReadTagId} {x n : ℕ} → r ≡ id.TagId x n → r ≡ id.NeedMore → ⊥
+not-more e m = let z : _≡_ {A = ℕ} 0 1 = cc in omega arith
 
 -- at most eight bytes are a number
 pub small-number : (s : List ℕ) → length s ≤ 8 → arrToU64 s ≡ unsigned.Value (beNumber s)
@@ -99,29 +121,16 @@ pub record IdFront (n : ℕ) (s : List ℕ) : Type 0 where
   pub whole : n ≤ length s
 
 pub id-front : (s : List ℕ) {x n : ℕ} → getD s 0 0 < 256 → readTagId s ≡ id.TagId x n → IdFront n s
-id-front s {x} {n} byte e = none-or (decLe 1 (length s))
+id-front s {x} {n} byte e = go (reading-id s)
   where
-    never : _≡_ {A = ℕ} 0 1 → IdFront n s
-    never f = absurd (omega arith)
-
-    whole-or : (length s ≡ 0 → ⊥) → Dec (idLength (getD s 0 0) ≤ length s) → IdFront n s
-    whole-or some (yes h) =
+    go : ReadingId s → IdFront n s
+    go (no-byte z) = absurd (not-more e (id-none s z))
+    go (too-few some h) = absurd (not-more e (id-short s some h))
+    go (all-there some h) =
         let r = id-whole s some h in
         let same : idLength (getD s 0 0) ≡ n = cc in
         let w = id-width (getD s 0 0) byte in
         rw (← same) (record { least = w .least; most = w .most; whole = h })
-    whole-or some (no f) =
-        let r = id-short s some (omega arith) in
-        let f' : _≡_ {A = ℕ} 0 1 = cc in
-        never f'
-
-    none-or : Dec (1 ≤ length s) → IdFront n s
-    none-or (yes h) = whole-or (λ z. omega arith) (decLe (idLength (getD s 0 0)) (length s))
-    none-or (no f) =
-        let z : length s ≡ 0 = omega arith in
-        let r = id-none s z in
-        let f' : _≡_ {A = ℕ} 0 1 = cc in
-        never f'
 
 -- ---- headers
 

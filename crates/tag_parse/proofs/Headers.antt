@@ -1,90 +1,36 @@
--- What `readHeader` accepts: an ID with its marker, of the shape of an RFC 8794 VINT (or the one byte 0), and right
--- after it a size VINT; the octets taken are exactly those. And that an answer that asks for no more stays when bytes
--- are appended. Assumes nothing.
-use Prim.Native.Nat.{ℕ, zero, suc, _+_, _-_, _*_, _^_, _≤_, _<_}
+-- Headers. `readHeader` answers a header exactly where its octets stand in front: an ID, and right after it a size VINT;
+-- it asks for more exactly where a part of such octets is all there is, and refuses exactly what `BadSize` says. An
+-- answer that asks for no more stays when bytes are appended. Assumes nothing.
+use Prim.Native.Nat.{ℕ, _+_, _-_, _*_, _≤_, _<_}
 use mathlib.Core.Path.{_≡_, refl, sym, ap, _∙_, subst}
 use mathlib.Core.Bool.{Bool, true, false, true≢false, cond}
-use mathlib.Core.List.{List, [], _∷_, _++_}
-use mathlib.Core.Logic.{_⊎_, inl, inr}
+use mathlib.Core.List.{List, _++_, append-assoc}
+use mathlib.Core.Logic.{_⊎_, inl, inr, _↔_}
 use native.Mathlib.Omega.{arith}
 use native.Mathlib.Decide.{decLe}
 use native.Mathlib.Nat.{lt-of-lt-of-le}
 use lib.Pow.{pow-mono}
-use lib.ListN.{length, getD, take, drop, length-append, length-drop, List·getD-append}
-use lib.Seq.{take-append-le, drop-append-le, length-take-le, getD-take}
-use Rattle.tools.specs.Bytes.{Octets, beNumber}
-use Rattle.tools.specs.Vint.{IsVint, Front, vintLimit, allOnes, vintLength, vintValue, readVint, vintNeedsMore}
+use lib.ListN.{length, getD, take, drop, length-append, length-drop, length-take, take-append-drop}
+use lib.Seq.{take-at, drop-at, take-append-le, take-append-add, drop-append-le}
+use Rattle.basics.specs.Lists.{ProperPrefix}
+use Rattle.tools.specs.Bytes.{Octets}
+use Rattle.tools.specs.Vint.{IsVint, Front, VintPart, FirstByte0, vintLimit, allOnes, readVint, vintNeedsMore, vintBytes}
+use Rattle.tools.specs.declared.errors.ToolError.the-variants.{ReadVintOverflow}
 use Rattle.tools.specs.declared.vint.ReadVint.{ReadVint}
 use Rattle.tools.specs.declared.vint.ReadVint.the-variants as vint
-use Rattle.tools.proofs.Cases.{read-whole}
-use Rattle.tools.proofs.Rfc8794.{read-sound, read-local}
-use Rattle.table.specs.Table.{Entry, specFor, dataTypeOf, rangeOf}
+use Rattle.tools.proofs.Rfc8794.{read-sound, front-read, read-local, vint-needs-more, vint-refused, written-is}
+use Rattle.table.specs.Table.{Entry, specFor, dataTypeOf}
 use Rattle.table.specs.declared.types.Spec.{Spec}
-use Rattle.tag_parse.specs.Header.{idLength, readTagId, sizeOf, tooLong, headerOf, sizedBy, sized, afterId, readHeader, headerNeedsMore, IsId, IsHeader, OfTable}
+use Rattle.tag_parse.specs.Header.{readTagId, idNeedsMore, sizeOf, tooLong, headerOf, sizedBy, sized, afterId, readHeader, headerNeedsMore, IsId, IsHeader, OfTable, IdPart, HeaderPart, TooLongSize, BadSize}
+use Rattle.tag_parse.specs.declared.types.ParseError.{ParseError}
+use Rattle.tag_parse.specs.declared.types.ParseError.the-variants.{InvalidTagData}
 use Rattle.tag_parse.specs.declared.types.ReadTagId.{ReadTagId}
 use Rattle.tag_parse.specs.declared.types.ReadTagId.the-variants as id
 use Rattle.tag_parse.specs.declared.types.EBMLSize.the-variants as size
 use Rattle.tag_parse.specs.declared.types.TagHeader.{TagHeader}
-use Rattle.tag_parse.specs.declared.types.ReadHeader.{ReadHeader}
 use Rattle.tag_parse.specs.declared.types.ReadHeader.the-variants as header
-use Rattle.tag_parse.proofs.Cases.{IdFront, id-zero, id-vint, id-front, id-none, id-short, id-whole, octets-drop}
-
--- ---- IDs
-
--- an ID that is read stands at the front
-pub id-sound : (s : List ℕ) (x n : ℕ) → Octets s → readTagId s ≡ id.TagId x n → IsId x n (take n s)
-id-sound s x n byte e = go (decLe 1 (getD s 0 0)) (id-front s (byte 0) e)
-  where
-    some : IdFront n s → length s ≡ 0 → ⊥
-    some f z = omega (arith, f .least, f .whole)
-
-    first : IdFront n s → getD (take n s) 0 0 ≡ getD s 0 0
-    first f = getD-take n s 0 0 (omega (arith, f .least))
-
-    parts : IdFront n s → (idLength (getD s 0 0) ≡ n) × (beNumber (take n s) ≡ x)
-    parts f = whole-or (decLe (idLength (getD s 0 0)) (length s))
-      where
-        whole-or : Dec (idLength (getD s 0 0) ≤ length s) → (idLength (getD s 0 0) ≡ n) × (beNumber (take n s) ≡ x)
-        whole-or (yes h) =
-            let r = id-whole s (some f) h in
-            let l : idLength (getD s 0 0) ≡ n = cc in
-            let b : beNumber (take (idLength (getD s 0 0)) s) ≡ x = cc in
-            (l, rw (← l) b)
-        whole-or (no g) =
-            let r = id-short s (some f) (omega arith) in
-            let z : _≡_ {A = ℕ} 0 1 = cc in
-            absurd (omega arith)
-
-    go : Dec (1 ≤ getD s 0 0) → IdFront n s → IsId x n (take n s)
-    go (yes h) f =
-        let p = parts f in
-        let l : vintLength (getD s 0 0) ≡ n = sym (id-vint (getD s 0 0) (λ z. omega arith)) ∙ p .0 in
-        let r = read-whole s (some f) (λ z. omega arith) (rw l (f .whole)) in
-        let v = vintValue n (take n s) in
-        let front : Front n v s = read-sound s n v byte (rw l at r) in
-        record { number = p .1; count = length-take-le n s (f .whole); shape = inr (v, front .vint) }
-    go (no g) f =
-        let z : getD s 0 0 ≡ 0 = omega arith in
-        record { number = parts f .1; count = length-take-le n s (f .whole); shape = inl (first f ∙ z) }
-
--- an ID that is read stays when bytes are appended
-pub id-local : (s t : List ℕ) {x n : ℕ} → getD s 0 0 < 256 → readTagId s ≡ id.TagId x n → readTagId (s ++ t) ≡ id.TagId x n
-id-local s t {x} {n} byte e = go (id-front s byte e) (decLe (idLength (getD s 0 0)) (length s))
-  where
-    go : IdFront n s → Dec (idLength (getD s 0 0) ≤ length s) → readTagId (s ++ t) ≡ id.TagId x n
-    go f (yes h) =
-        let some : length s ≡ 0 → ⊥ = λ z. omega (arith, f .least, f .whole) in
-        let first : getD (s ++ t) 0 0 ≡ getD s 0 0 = List·getD-append s t 0 0 (omega (arith, f .least, f .whole)) in
-        let more : length (s ++ t) ≡ length s + length t = length-append s t in
-        let l : idLength (getD (s ++ t) 0 0) ≡ idLength (getD s 0 0) = ap idLength first in
-        id-whole (s ++ t) (λ z. omega (arith, f .least, f .whole)) (rw l (omega arith))
-        ∙ rw (l, take-append-le (idLength (getD s 0 0)) s t h) (sym (id-whole s some h) ∙ e)
-    go f (no g) =
-        let r = id-short s (λ z. omega (arith, f .least, f .whole)) (omega arith) in
-        let z : _≡_ {A = ℕ} 0 1 = cc in
-        absurd (omega arith)
-
--- ---- headers
+use Rattle.tag_parse.proofs.Cases.{id-front, octets-drop}
+use Rattle.tag_parse.proofs.Ids.{id-sound, id-complete, id-needs-more, id-local}
 
 -- the header that a size of v in L octets makes, where it is not too long for its type
 made : (x n v L : ℕ) (spec : Spec) (h : TagHeader) → sizedBy x spec n v L ≡ header.Header h → (headerOf x spec n v L ≡ h) × (tooLong (spec .kind) v ≡ false)
@@ -159,13 +105,142 @@ header-spec t s h e = at-id (readTagId s) e
     at-id id.NeedMore e = let z : _≡_ {A = ℕ} 0 1 = cc in absurd (omega arith)
     at-id (id.TagId x n) e = at-size x n (readVint (drop n s)) e
 
+-- ---- a header is answered exactly where it stands in front
+
+-- a header that stands at the front, with what the table says of its ID, is read
+pub header-complete : (t : List Entry) (s : List ℕ) (h : TagHeader) → IsHeader h s → OfTable t h → readHeader t s ≡ header.Header h
+unfolding readHeader afterId sized sizedBy
+header-complete t s h i o =
+    let long : tooLong (dataTypeOf t (h .id)) (i .v) ≡ false = rw (o .kind) at (i .fits) in
+    rw (id-complete s (h .id) (i .n) (i .identifier), front-read (drop (i .n) s) (i .vint), long, ← o .kind, ← o .path, ← i .size, ← i .taken)
+
+pub header-exactly : (t : List Entry) (s : List ℕ) (h : TagHeader) → Octets s → (readHeader t s ≡ header.Header h) ↔ (IsHeader h s × OfTable t h)
+header-exactly t s h byte = (λ e. (header-sound t s h byte e, header-spec t s h e), λ p. header-complete t s h (p .0) (p .1))
+
+-- ---- need more, and what is refused
+
+-- a size that was read asks for no more
+sized-asks-none : (x n v L : ℕ) (spec : Spec) → headerNeedsMore (sizedBy x spec n v L) ≡ false
+unfolding sizedBy
+sized-asks-none x n v L spec = go (tooLong (spec .kind) v)
+  where
+    go : (b : Bool) → headerNeedsMore (cond b (header.Refused InvalidTagData) (header.Header (headerOf x spec n v L))) ≡ false
+    go true = refl
+    go false = refl
+
+-- more is asked for exactly where less than the octets of an ID and of a size VINT is there
+pub header-needs-more : (t : List Entry) (s : List ℕ) → Octets s → (headerNeedsMore (readHeader t s) ≡ true) ↔ HeaderPart s
+unfolding readHeader afterId sized
+header-needs-more t s byte = (at-id (readTagId s) refl, λ p. asks (p .identifier) (p .vint) (p .part) (decLe (p .n) (length s)))
+  where
+    at-size : (x n : ℕ) → readTagId s ≡ id.TagId x n → (r : ReadVint) → readVint (drop n s) ≡ r → headerNeedsMore (sized x (specFor t x) n r) ≡ true → HeaderPart s
+    at-size x n f vint.NeedMore g m =
+        let q = vint-needs-more (drop n s) (octets-drop n s byte) .0 (rw g) in
+        record {
+          x = x;
+          n = n;
+          L = q .L;
+          v = q .v;
+          id-octets = take n s;
+          size-octets = q .octets;
+          identifier = id-sound s x n byte f;
+          vint = q .vint;
+          part = record {
+            missing = q .part .missing;
+            some = q .part .some;
+            joined = sym (rw (← q .part .joined) (sym (append-assoc (take n s) (drop n s) (q .part .missing)) ∙ rw (take-append-drop n s)));
+          };
+        }
+    at-size x n f (vint.Refused o) g m = absurd (true≢false (sym m))
+    at-size x n f (vint.Vint v L) g m = absurd (true≢false (sym m ∙ sized-asks-none x n v L (specFor t x)))
+
+    at-id : (r : ReadTagId) → readTagId s ≡ r → headerNeedsMore (afterId t s r) ≡ true → HeaderPart s
+    at-id id.NeedMore f m =
+        let q = id-needs-more s byte .0 (rw f) in
+        record {
+          x = q .x;
+          n = q .n;
+          L = 1;
+          v = 0;
+          id-octets = q .octets;
+          size-octets = vintBytes 1 0;
+          identifier = q .identifier;
+          vint = written-is 1 0 (omega arith) (omega arith) (omega arith);
+          part = record {
+            missing = q .part .missing ++ vintBytes 1 0;
+            some = rw length-append (omega (arith, q .part .some));
+            joined = sym (append-assoc s (q .part .missing) (vintBytes 1 0)) ∙ rw (q .part .joined);
+          };
+        }
+    at-id (id.TagId x n) f m = at-size x n f (readVint (drop n s)) refl m
+
+    at-vint : (x n : ℕ) (r : ReadVint) → vintNeedsMore r ≡ true → headerNeedsMore (sized x (specFor t x) n r) ≡ true
+    at-vint x n vint.NeedMore q = refl
+    at-vint x n (vint.Refused o) q = absurd (true≢false (sym q))
+    at-vint x n (vint.Vint v L) q = absurd (true≢false (sym q))
+
+    at-nothing : (r : ReadTagId) → idNeedsMore r ≡ true → headerNeedsMore (afterId t s r) ≡ true
+    at-nothing id.NeedMore q = refl
+    at-nothing (id.TagId x l) q = absurd (true≢false (sym q))
+
+    asks : {x n L v : ℕ} {i z : List ℕ} → IsId x n i → IsVint L v z → ProperPrefix s (i ++ z) → Dec (n ≤ length s) → headerNeedsMore (readHeader t s) ≡ true
+    asks {x} {n} {L} {v} {i} {z} identifier vint part (yes h) =
+        let front : take n s ≡ i = sym (take-append-le n s (part .missing) h) ∙ ap (take n) (part .joined) ∙ take-at i z n (identifier .count) in
+        let rest : drop n s ++ part .missing ≡ z = sym (drop-append-le n s (part .missing) h) ∙ ap (drop n) (part .joined) ∙ drop-at i z n (identifier .count) in
+        let q : VintPart (drop n s) =
+        record { L = L; v = v; octets = z; vint = vint; part = record { missing = part .missing; some = part .some; joined = rest } } in
+        rw (id-complete s x n (rw front identifier)) (at-vint x n (readVint (drop n s)) (vint-needs-more (drop n s) (octets-drop n s byte) .1 q))
+    asks {x} {n} {L} {v} {i} {z} identifier vint part (no f) =
+        let k = n - length s in
+        let e : length s + k ≡ n = omega arith in
+        let front : s ++ take k (part .missing) ≡ i = sym (take-append-add s (part .missing) k) ∙ rw e (ap (take n) (part .joined) ∙ take-at i z n (identifier .count)) in
+        let some : 0 < length (take k (part .missing)) = rw length-take (omega (arith, part .some)) in
+        let q : IdPart s =
+        record { x = x; n = n; octets = i; identifier = identifier; part = record { missing = take k (part .missing); some = some; joined = front } } in
+        at-nothing (readTagId s) (id-needs-more s byte .1 q)
+
+-- a size that is refused is too long
+refused-size : (x n v L : ℕ) (spec : Spec) (e : ParseError) → sizedBy x spec n v L ≡ header.Refused e → (e ≡ InvalidTagData) × (tooLong (spec .kind) v ≡ true)
+unfolding sizedBy
+refused-size x n v L spec e r = go (tooLong (spec .kind) v) refl
+  where
+    go : (b : Bool) → tooLong (spec .kind) v ≡ b → (e ≡ InvalidTagData) × (tooLong (spec .kind) v ≡ true)
+    go true f = let r' = rw f at r in let g : e ≡ InvalidTagData = cc in (g, f)
+    go false f =
+        let r' = rw f at r in
+        let z : _≡_ {A = ℕ} 0 1 = cc in
+        absurd (omega arith)
+
+-- refusal 14 comes exactly where a bad size stands after an ID, and no other comes
+pub header-refused : (t : List Entry) (s : List ℕ) (e : ParseError) → Octets s → (readHeader t s ≡ header.Refused e) ↔ ((e ≡ InvalidTagData) × BadSize t s)
+unfolding readHeader afterId sized sizedBy
+header-refused t s e byte = (at-id (readTagId s) refl, λ p. answers (p .0) (p .1) (p .1 .bad))
+  where
+    at-size : (x n : ℕ) → readTagId s ≡ id.TagId x n → (r : ReadVint) → readVint (drop n s) ≡ r → sized x (specFor t x) n r ≡ header.Refused e → (e ≡ InvalidTagData) × BadSize t s
+    at-size x n f vint.NeedMore g q = let z : _≡_ {A = ℕ} 0 1 = cc in absurd (omega arith)
+    at-size x n f (vint.Refused o) g q =
+        let same : e ≡ InvalidTagData = cc in
+        (same, record { x = x; n = n; identifier = id-sound s x n byte f; bad = inl (vint-refused (drop n s) o .0 g .1) })
+    at-size x n f (vint.Vint v L) g q =
+        let r = refused-size x n v L (specFor t x) e q in
+        let front = read-sound (drop n s) L v (octets-drop n s byte) g in
+        (r .0, record { x = x; n = n; identifier = id-sound s x n byte f; bad = inr (record { L = L; v = v; vint = front; over = r .1 }) })
+
+    at-id : (r : ReadTagId) → readTagId s ≡ r → afterId t s r ≡ header.Refused e → (e ≡ InvalidTagData) × BadSize t s
+    at-id id.NeedMore f q = let z : _≡_ {A = ℕ} 0 1 = cc in absurd (omega arith)
+    at-id (id.TagId x n) f q = at-size x n f (readVint (drop n s)) refl q
+
+    answers : e ≡ InvalidTagData → (b : BadSize t s) → FirstByte0 (drop (b .n) s) ⊎ TooLongSize (dataTypeOf t (b .x)) (drop (b .n) s) → readHeader t s ≡ header.Refused e
+    answers same b (inl z) = rw (id-complete s (b .x) (b .n) (b .identifier), vint-refused (drop (b .n) s) ReadVintOverflow .1 (refl, z), same)
+    answers same b (inr l) = rw (id-complete s (b .x) (b .n) (b .identifier), front-read (drop (b .n) s) (l .vint), l .over, same)
+
 -- an answer that asks for no more stays when bytes are appended
 pub header-local : (t : List Entry) (s u : List ℕ) → getD s 0 0 < 256 → headerNeedsMore (readHeader t s) ≡ false → readHeader t (s ++ u) ≡ readHeader t s
 unfolding readHeader afterId sized
 header-local t s u byte some = at-id (readTagId s) refl
   where
     same : (x n : ℕ) → readTagId s ≡ id.TagId x n → vintNeedsMore (readVint (drop n s)) ≡ false → readHeader t (s ++ u) ≡ readHeader t s
-    same x n f k = rw (id-local s u byte f, f, drop-append-le n s u (id-front s byte f .whole), read-local (drop n s) u k)
+    same x n f k = rw (id-local s u f, f, drop-append-le n s u (id-front s byte f .whole), read-local (drop n s) u k)
 
     at-size : (x n : ℕ) → readTagId s ≡ id.TagId x n → (r : ReadVint) → readVint (drop n s) ≡ r → readHeader t (s ++ u) ≡ readHeader t s
     at-size x n f vint.NeedMore g = absurd (true≢false (rw (f, g) at some))

@@ -1,4 +1,5 @@
 pub mod Cases
+pub mod Ids
 pub mod Headers
 pub mod Unique
 pub mod Computing

@@ -1,13 +1,14 @@
 -- Document 01, "One call of the decoder", step 5: the header of an element.
 use Prim.Native.Nat.{ℕ, _+_, _≤_}
 use mathlib.Core.Bool.{Bool, true, false, cond, _&&_}
-use mathlib.Core.List.{List}
+use mathlib.Core.List.{List, [], _∷_, _++_}
 use mathlib.Core.Logic.{_⊎_}
 use mathlib.Core.Path.{_≡_}
 use lib.Dec.{ltb, eqb}
 use lib.ListN.{length, getD, take, drop}
+use Rattle.basics.specs.Lists.{ProperPrefix}
 use Rattle.tools.specs.Bytes.{beNumber}
-use Rattle.tools.specs.Vint.{IsVint, Front, vintLength, allOnes, readVint}
+use Rattle.tools.specs.Vint.{IsVint, Front, FirstByte0, vintLength, allOnes, readVint}
 use Rattle.tools.specs.declared.vint.ReadVint.{ReadVint}
 use Rattle.tools.specs.declared.vint.ReadVint.the-variants as vint
 use Rattle.table.specs.Table.{Entry, specFor, dataTypeOf, rangeOf}
@@ -95,11 +96,11 @@ headerNeedsMore (header.Header h) = false
 
 -- ---- what is accepted, as relations on octets
 
--- the n octets of an ID: the one byte 0, or those of a VINT, whose number with its marker they are
+-- the n octets of an ID, whose number x is: the one byte 0, or the octets of a VINT, so "marker kept"
 pub record IsId (x n : ℕ) (octets : List ℕ) : Type 0 where
   pub number : beNumber octets ≡ x
   pub count : length octets ≡ n
-  pub shape : (getD octets 0 0 ≡ 0) ⊎ ((v : ℕ) × IsVint n v octets)
+  pub shape : (octets ≡ 0 ∷ []) ⊎ ((v : ℕ) × IsVint n v octets)
 
 -- an ID of n octets, and right after it a size VINT of L octets with the value v: the header's octets are these n + L
 pub record IsHeader (h : TagHeader) (s : List ℕ) : Type 0 where
@@ -118,3 +119,39 @@ pub record IsHeader (h : TagHeader) (s : List ℕ) : Type 0 where
 pub record OfTable (t : List Entry) (h : TagHeader) : Type 0 where
   pub kind : h .kind ≡ dataTypeOf t (h .id)
   pub path : h .path ≡ rangeOf t (h .id)
+
+-- ---- what asks for more, and what is refused
+
+-- s is less than the octets of an ID, from the first on: a proper prefix of them, the empty list too
+pub record IdPart (s : List ℕ) : Type 0 where
+  pub x : ℕ
+  pub n : ℕ
+  pub octets : List ℕ
+  pub identifier : IsId x n octets
+  pub part : ProperPrefix s octets
+
+-- s is less than the octets of an ID and of a size VINT right after it: a proper prefix of them, the empty list too
+pub record HeaderPart (s : List ℕ) : Type 0 where
+  pub x : ℕ
+  pub n : ℕ
+  pub L : ℕ
+  pub v : ℕ
+  pub id-octets : List ℕ
+  pub size-octets : List ℕ
+  pub identifier : IsId x n id-octets
+  pub vint : IsVint L v size-octets
+  pub part : ProperPrefix s (id-octets ++ size-octets)
+
+-- a size VINT stands at the front of s, and is too long for the type
+pub record TooLongSize (kind : TagDataType) (s : List ℕ) : Type 0 where
+  pub L : ℕ
+  pub v : ℕ
+  pub vint : Front L v s
+  pub over : tooLong kind v ≡ true
+
+-- right after an ID a "Size byte 0", or a size that is too long for the ID's type
+pub record BadSize (t : List Entry) (s : List ℕ) : Type 0 where
+  pub x : ℕ
+  pub n : ℕ
+  pub identifier : IsId x n (take n s)
+  pub bad : FirstByte0 (drop n s) ⊎ TooLongSize (dataTypeOf t x) (drop n s)

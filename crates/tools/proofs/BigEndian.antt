@@ -6,7 +6,7 @@ use native.Mathlib.Omega.{arith}
 use native.Mathlib.Nat.{lt-of-lt-of-le, le-of-eq, le-trans, mul-one, add-zero, mod-one, add-mul, mul-assoc, mul-le-mul-right, mod-eq-of-lt, not-suc-le-zero}
 use native.Mathlib.Numerals.{add-one}
 use lib.Arith.{digits-lt, digits-div, digits-mod}
-use lib.ListN.{length, getD, take, drop, set}
+use lib.ListN.{length, getD, take, drop, set, replicate}
 use lib.Pow.{pow-add, pow-mono, mod-pow-add}
 use lib.Seq.{take-suc}
 use Rattle.tools.specs.Bytes.{Octets, beFrom, beNumber, beBytes}
@@ -126,3 +126,11 @@ octets-take zero s byte i = omega arith
 octets-take (suc n) [] byte i = omega arith
 octets-take (suc n) (x ∷ s) byte zero = byte 0
 octets-take (suc n) (x ∷ s) byte (suc i) = octets-take n s (λ j. byte (suc j)) i
+
+-- octets with zeros behind them are octets
+pub octets-zeros : (s : List ℕ) (k : ℕ) → Octets s → Octets (s ++ replicate k 0)
+octets-zeros [] zero byte i = omega arith
+octets-zeros [] (suc k) byte zero = omega arith
+octets-zeros [] (suc k) byte (suc i) = octets-zeros [] k byte i
+octets-zeros (x ∷ s) k byte zero = byte 0
+octets-zeros (x ∷ s) k byte (suc i) = octets-zeros s k (λ j. byte (suc j)) i

@@ -3,6 +3,8 @@ use Prim.Native.Nat.{ℕ, zero, suc, _+_, _-_, _*_, _^_, _≤_, _<_}
 use mathlib.Core.Path.{_≡_, refl, sym, ap, _∙_}
 use mathlib.Core.Bool.{true}
 use mathlib.Core.List.{List, _++_}
+use native.Mathlib.Decide.{decLe}
+use native.Mathlib.Omega.{arith}
 use borrow.Author.Tests.{eq-eqb, ne-eqb, lt-ltb, le-ltb, le-leb, lt-leb}
 use lib.IntN.{ℤ}
 use lib.ListN.{length, getD, take, drop}
@@ -37,6 +39,28 @@ module _ (s : List ℕ) (some : length s ≡ 0 → ⊥) where
       → readVint s ≡ Vint (vintValue (vintLength (getD s 0 0)) (take (vintLength (getD s 0 0)) s)) (vintLength (getD s 0 0))
   unfolding readVint
   read-whole n h = simp (ne-eqb _ _ some, ne-eqb _ _ n, le-ltb _ _ h)
+
+-- every way in which reading a vint goes, with the facts that hold there
+pub data Reading (s : List ℕ) : Type 0 where
+  no-byte : length s ≡ 0 → Reading s
+  first-zero : (length s ≡ 0 → ⊥) → getD s 0 0 ≡ 0 → Reading s
+  too-few : (length s ≡ 0 → ⊥) → (getD s 0 0 ≡ 0 → ⊥) → length s < vintLength (getD s 0 0) → Reading s
+  all-there : (length s ≡ 0 → ⊥) → (getD s 0 0 ≡ 0 → ⊥) → vintLength (getD s 0 0) ≤ length s → Reading s
+
+pub reading : (s : List ℕ) → Reading s
+reading s = none-or (decLe 1 (length s))
+  where
+    whole-or : (length s ≡ 0 → ⊥) → (getD s 0 0 ≡ 0 → ⊥) → Dec (vintLength (getD s 0 0) ≤ length s) → Reading s
+    whole-or n z (yes h) = all-there n z h
+    whole-or n z (no f) = too-few n z (omega arith)
+
+    zero-or : (length s ≡ 0 → ⊥) → Dec (1 ≤ getD s 0 0) → Reading s
+    zero-or n (yes h) = whole-or n (λ e. omega arith) (decLe (vintLength (getD s 0 0)) (length s))
+    zero-or n (no f) = first-zero n (omega arith)
+
+    none-or : Dec (1 ≤ length s) → Reading s
+    none-or (yes h) = zero-or (λ e. omega arith) (decLe 1 (getD s 0 0))
+    none-or (no f) = no-byte (omega arith)
 
 -- where more is asked for
 pub none-needs-more : (s : List ℕ) → length s ≡ 0 → vintNeedsMore (readVint s) ≡ true

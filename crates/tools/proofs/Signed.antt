@@ -2,7 +2,9 @@
 -- over the number of bits. Assumes nothing.
 use Prim.Native.Nat.{ℕ, zero, suc, _+_, _-_, _*_, _^_, _≤_, _<_}
 use mathlib.Core.Path.{_≡_, refl, sym, ap, _∙_}
+use mathlib.Core.Bool.{true}
 use mathlib.Core.List.{List, _++_}
+use mathlib.Core.Logic.{_↔_}
 use native.Mathlib.Omega.{arith}
 use native.Mathlib.Decide.{decLe}
 use native.Mathlib.Nat.{lt-of-le-of-lt}
@@ -12,7 +14,7 @@ use lib.ListN.{length, drop}
 use lib.Pow.{pow-pos}
 use lib.Signed.{mag}
 use Rattle.tools.specs.Bytes.{Octets, beNumber}
-use Rattle.tools.specs.Vint.{IsVint, readVint, vintNeedsMore, vintBytes, widthFor, asVintWithLength}
+use Rattle.tools.specs.Vint.{IsVint, VintPart, readVint, vintNeedsMore, vintBytes, widthFor, asVintWithLength}
 use Rattle.tools.specs.Integer.{absoluteValue}
 use Rattle.tools.specs.Twos.{signedOf, bitsOf}
 use Rattle.tools.specs.SignedVint.{takenSigned, readSignedVint, signedVintNeedsMore, signedWidth, signedVintLimit, asSignedVint, asSignedVintWithLength}
@@ -24,7 +26,7 @@ use Rattle.tools.specs.declared.vint.Written.the-variants as written
 use Rattle.tools.proofs.BigEndian.{be-lt}
 use Rattle.tools.proofs.Cases.{signed-least-over, signed-least-written, signed-over, signed-written, vint-written}
 use Rattle.tools.proofs.Complement.{doubled, signed-low, signed-high, mag-le}
-use Rattle.tools.proofs.Rfc8794.{round-trip}
+use Rattle.tools.proofs.Rfc8794.{round-trip, vint-needs-more}
 use Rattle.tools.proofs.Widths.{width-least, width-holds}
 
 -- ---- two's complement in k bits: -2 ^ (k - 1) to 2 ^ (k - 1) - 1, there and back
@@ -69,6 +71,10 @@ signed-needs-more s = go (readVint s)
     go read.NeedMore = refl
     go (read.Refused e) = refl
     go (read.Vint v L) = refl
+
+-- so exactly where less than the octets of a VINT is there
+pub signed-vint-needs-more : (s : List ℕ) → Octets s → (signedVintNeedsMore (readSignedVint s) ≡ true) ↔ VintPart s
+signed-vint-needs-more s byte = rw signed-needs-more (vint-needs-more s byte)
 
 -- "Reading gives −2^(7L−1) to 2^(7L−1)−1"
 pub vint-range : (L v : ℕ) (octets : List ℕ) → IsVint L v octets → mag (signedOf (7 * L) v) < 2 ^ (7 * L - 1)

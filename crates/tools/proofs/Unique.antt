@@ -1,19 +1,15 @@
 -- No second answer meets a contract, as the checker reads it: two results, and two lists of lent bytes at exit, that a
 -- public routine's contract allows for the same arguments are equal. Assumes nothing.
 use Prim.Native.Nat.{ℕ}
-use mathlib.Core.Path.{_≡_, sym, _∙_}
-use mathlib.Core.Bool.{Bool}
+use mathlib.Core.Path.{_≡_, ap₂}
 use mathlib.Core.List.{List}
 use borrow.Fn.Kinds.{Dens}
 use contract.Lifetimes.{Lfts}
 use denote.Ref.{now}
+use Rattle.basics.specs.Unique.{OneAnswer, answer, answerAnd}
+use Rattle.basics.proofs.Unique.{one-answer}
+pub use Rattle.basics.proofs.Unique.{same}
 use Rattle.tools.specs.Answers.{Gives}
-use Rattle.tools.specs.declared.vint.ReadVint.{ReadVint}
-use Rattle.tools.specs.declared.vint.Written.{Written}
-use Rattle.tools.specs.declared.signed_vint.ReadSignedVint.{ReadSignedVint}
-use Rattle.tools.specs.declared.integer.ArrToU64.{ArrToU64}
-use Rattle.tools.specs.declared.integer.ArrToI64.{ArrToI64}
-use Rattle.tools.specs.declared.float.ArrToF64.{ArrToF64}
 use Rattle.tools.proofs.vint.read_vint.Reads as read-vint
 use Rattle.tools.proofs.vint.read_vint.Kinds as read-vint-kinds
 use Rattle.tools.proofs.vint.as_vint.Reads as as-vint
@@ -42,58 +38,57 @@ use Rattle.tools.proofs.float.arr_to_f64.Reads as arr-to-f64
 use Rattle.tools.proofs.float.arr_to_f64.Kinds as arr-to-f64-kinds
 use Rattle.tools.proofs.errors.number.Reads as number
 use Rattle.tools.proofs.errors.number.Kinds as number-kinds
+use Rattle.tools.proofs.errors.number_and_place.Reads as number-and-place
+use Rattle.tools.proofs.errors.number_and_place.Kinds as number-and-place-kinds
 
--- the general law, for an answer and for an answer with lent bytes
-pub same : {A : Type 0} {a x y : A} → x ≡ a → y ≡ a → x ≡ y
-same p q = p ∙ sym q
+-- what `Gives` fixes, as a pair
+pub given : {A : Type 0} {r : A} {o : List ℕ} {p : A × List ℕ} → Gives r o p → (r, o) ≡ p
+given g = ap₂ (λ r o. (r, o)) (g .answer) (g .bytes)
 
 pub gives-same : {A : Type 0} {r r' : A} {o o' : List ℕ} {p : A × List ℕ} → Gives r o p → Gives r' o' p → (r ≡ r') × (o ≡ o')
 gives-same g h = (same (g .answer) (h .answer), same (g .bytes) (h .bytes))
 
-pub read-vint-one : (κs : Lfts 1) (a : Dens κs read-vint-kinds.ps) (r r' : ReadVint) (e : _) → read-vint.Post κs a r e → read-vint.Post κs a r' e → r ≡ r'
-read-vint-one κs a r r' e p q = same p q
+pub read-vint-one : (κs : Lfts 1) (a : Dens κs read-vint-kinds.ps) → OneAnswer (read-vint.Post κs a) answer
+read-vint-one κs a = one-answer (λ r e p. p)
 
-pub as-vint-one : (κs : Lfts 1) (a : Dens κs as-vint-kinds.ps) (r r' : Written) (e e' : _) → as-vint.Post κs a r e → as-vint.Post κs a r' e'
-    → (r ≡ r') × (now (e .1 .0) ≡ now (e' .1 .0))
-as-vint-one κs a r r' e e' p q = gives-same p q
+pub as-vint-one : (κs : Lfts 1) (a : Dens κs as-vint-kinds.ps) → OneAnswer (as-vint.Post κs a) (answerAnd (λ e. now (e .1 .0)))
+as-vint-one κs a = one-answer (λ r e p. given p)
 
-pub as-vint-with-length-one : (κs : Lfts 1) (a : Dens κs as-vint-with-length-kinds.ps) (r r' : Written) (e e' : _) → as-vint-with-length.Post κs a r e → as-vint-with-length.Post κs a r' e'
-    → (r ≡ r') × (now (e .1 .1 .0) ≡ now (e' .1 .1 .0))
-as-vint-with-length-one κs a r r' e e' p q = gives-same p q
+pub as-vint-with-length-one : (κs : Lfts 1) (a : Dens κs as-vint-with-length-kinds.ps) → OneAnswer (as-vint-with-length.Post κs a) (answerAnd (λ e. now (e .1 .1 .0)))
+as-vint-with-length-one κs a = one-answer (λ r e p. given p)
 
-pub is-vint-one : (κs : Lfts 0) (a : Dens κs is-vint-kinds.ps) (r r' : Bool) (e : _) → is-vint.Post κs a r e → is-vint.Post κs a r' e → r ≡ r'
-is-vint-one κs a r r' e p q = same p q
+pub is-vint-one : (κs : Lfts 0) (a : Dens κs is-vint-kinds.ps) → OneAnswer (is-vint.Post κs a) answer
+is-vint-one κs a = one-answer (λ r e p. p)
 
-pub read-signed-vint-one : (κs : Lfts 1) (a : Dens κs read-signed-vint-kinds.ps) (r r' : ReadSignedVint) (e : _) → read-signed-vint.Post κs a r e → read-signed-vint.Post κs a r' e → r ≡ r'
-read-signed-vint-one κs a r r' e p q = same p q
+pub read-signed-vint-one : (κs : Lfts 1) (a : Dens κs read-signed-vint-kinds.ps) → OneAnswer (read-signed-vint.Post κs a) answer
+read-signed-vint-one κs a = one-answer (λ r e p. p)
 
-pub as-signed-vint-one : (κs : Lfts 1) (a : Dens κs as-signed-vint-kinds.ps) (r r' : Written) (e e' : _) → as-signed-vint.Post κs a r e → as-signed-vint.Post κs a r' e'
-    → (r ≡ r') × (now (e .1 .0) ≡ now (e' .1 .0))
-as-signed-vint-one κs a r r' e e' p q = gives-same p q
+pub as-signed-vint-one : (κs : Lfts 1) (a : Dens κs as-signed-vint-kinds.ps) → OneAnswer (as-signed-vint.Post κs a) (answerAnd (λ e. now (e .1 .0)))
+as-signed-vint-one κs a = one-answer (λ r e p. given p)
 
-pub as-signed-vint-with-length-one : (κs : Lfts 1) (a : Dens κs as-signed-vint-with-length-kinds.ps) (r r' : Written) (e e' : _) → as-signed-vint-with-length.Post κs a r e → as-signed-vint-with-length.Post κs a r' e'
-    → (r ≡ r') × (now (e .1 .1 .0) ≡ now (e' .1 .1 .0))
-as-signed-vint-with-length-one κs a r r' e e' p q = gives-same p q
+pub as-signed-vint-with-length-one : (κs : Lfts 1) (a : Dens κs as-signed-vint-with-length-kinds.ps) → OneAnswer (as-signed-vint-with-length.Post κs a) (answerAnd (λ e. now (e .1 .1 .0)))
+as-signed-vint-with-length-one κs a = one-answer (λ r e p. given p)
 
-pub absolute-value-one : (κs : Lfts 0) (a : Dens κs absolute-value-kinds.ps) (r r' : ℕ) (e : _) → absolute-value.Post κs a r e → absolute-value.Post κs a r' e → r ≡ r'
-absolute-value-one κs a r r' e p q = same p q
+pub absolute-value-one : (κs : Lfts 0) (a : Dens κs absolute-value-kinds.ps) → OneAnswer (absolute-value.Post κs a) answer
+absolute-value-one κs a = one-answer (λ r e p. p)
 
-pub arr-to-u64-one : (κs : Lfts 1) (a : Dens κs arr-to-u64-kinds.ps) (r r' : ArrToU64) (e : _) → arr-to-u64.Post κs a r e → arr-to-u64.Post κs a r' e → r ≡ r'
-arr-to-u64-one κs a r r' e p q = same p q
+pub arr-to-u64-one : (κs : Lfts 1) (a : Dens κs arr-to-u64-kinds.ps) → OneAnswer (arr-to-u64.Post κs a) answer
+arr-to-u64-one κs a = one-answer (λ r e p. p)
 
-pub arr-to-i64-one : (κs : Lfts 1) (a : Dens κs arr-to-i64-kinds.ps) (r r' : ArrToI64) (e : _) → arr-to-i64.Post κs a r e → arr-to-i64.Post κs a r' e → r ≡ r'
-arr-to-i64-one κs a r r' e p q = same p q
+pub arr-to-i64-one : (κs : Lfts 1) (a : Dens κs arr-to-i64-kinds.ps) → OneAnswer (arr-to-i64.Post κs a) answer
+arr-to-i64-one κs a = one-answer (λ r e p. p)
 
-pub u64-to-arr-one : (κs : Lfts 1) (a : Dens κs u64-to-arr-kinds.ps) (r r' : Written) (e e' : _) → u64-to-arr.Post κs a r e → u64-to-arr.Post κs a r' e'
-    → (r ≡ r') × (now (e .1 .0) ≡ now (e' .1 .0))
-u64-to-arr-one κs a r r' e e' p q = gives-same p q
+pub u64-to-arr-one : (κs : Lfts 1) (a : Dens κs u64-to-arr-kinds.ps) → OneAnswer (u64-to-arr.Post κs a) (answerAnd (λ e. now (e .1 .0)))
+u64-to-arr-one κs a = one-answer (λ r e p. given p)
 
-pub i64-to-arr-one : (κs : Lfts 1) (a : Dens κs i64-to-arr-kinds.ps) (r r' : Written) (e e' : _) → i64-to-arr.Post κs a r e → i64-to-arr.Post κs a r' e'
-    → (r ≡ r') × (now (e .1 .0) ≡ now (e' .1 .0))
-i64-to-arr-one κs a r r' e e' p q = gives-same p q
+pub i64-to-arr-one : (κs : Lfts 1) (a : Dens κs i64-to-arr-kinds.ps) → OneAnswer (i64-to-arr.Post κs a) (answerAnd (λ e. now (e .1 .0)))
+i64-to-arr-one κs a = one-answer (λ r e p. given p)
 
-pub arr-to-f64-one : (κs : Lfts 1) (a : Dens κs arr-to-f64-kinds.ps) (r r' : ArrToF64) (e : _) → arr-to-f64.Post κs a r e → arr-to-f64.Post κs a r' e → r ≡ r'
-arr-to-f64-one κs a r r' e p q = same p q
+pub arr-to-f64-one : (κs : Lfts 1) (a : Dens κs arr-to-f64-kinds.ps) → OneAnswer (arr-to-f64.Post κs a) answer
+arr-to-f64-one κs a = one-answer (λ r e p. p)
 
-pub number-one : (κs : Lfts 0) (a : Dens κs number-kinds.ps) (r r' : ℕ) (e : _) → number.Post κs a r e → number.Post κs a r' e → r ≡ r'
-number-one κs a r r' e p q = same p q
+pub number-one : (κs : Lfts 0) (a : Dens κs number-kinds.ps) → OneAnswer (number.Post κs a) answer
+number-one κs a = one-answer (λ r e p. p)
+
+pub number-and-place-one : (κs : Lfts 0) (a : Dens κs number-and-place-kinds.ps) → OneAnswer (number-and-place.Post κs a) answer
+number-and-place-one κs a = one-answer (λ r e p. p)

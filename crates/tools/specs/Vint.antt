@@ -2,10 +2,11 @@
 use Prim.Native.Nat.{ℕ, zero, suc, _+_, _-_, _*_, _%_, _^_, _≤_, _<_}
 use mathlib.Core.Bool.{Bool, true, false, cond}
 use mathlib.Core.Path.{_≡_}
-use mathlib.Core.List.{List, _++_}
+use mathlib.Core.List.{List, _∷_, _++_}
 use lib.Count.{leadingZeros}
 use lib.Dec.{leb, ltb, eqb}
 use lib.ListN.{length, getD, take, drop}
+use Rattle.basics.specs.Lists.{ProperPrefix}
 use Rattle.tools.specs.Bytes.{Octets, beNumber, beBytes}
 use Rattle.tools.specs.declared.errors.ToolError.the-variants.{ReadVintOverflow, WriteVintOverflow, WidthMismatch, OutputTooShort}
 use Rattle.tools.specs.declared.vint.ReadVint.{ReadVint}
@@ -27,6 +28,14 @@ pub record IsVint (L v : ℕ) (octets : List ℕ) : Type 0 where
 pub record Front (L v : ℕ) (s : List ℕ) : Type 0 where
   pub whole : L ≤ length s
   pub vint : IsVint L v (take L s)
+
+-- s is less than the octets of a VINT, from the first on: a proper prefix of them, the empty list too
+pub record VintPart (s : List ℕ) : Type 0 where
+  pub L : ℕ
+  pub v : ℕ
+  pub octets : List ℕ
+  pub vint : IsVint L v octets
+  pub part : ProperPrefix s octets
 
 -- section 6: a data size whose data bits are all ones is reserved for an unknown size
 abbrev pub allOnes : ℕ → ℕ → Bool
@@ -58,6 +67,10 @@ abbrev pub vintNeedsMore : ReadVint → Bool
 vintNeedsMore read.NeedMore = true
 vintNeedsMore (read.Refused e) = false
 vintNeedsMore (read.Vint v L) = false
+
+-- "First byte 0"
+abbrev pub FirstByte0 : List ℕ → Type 0
+FirstByte0 s = (rest : List ℕ) × (s ≡ 0 ∷ rest)
 
 -- ---- writing
 

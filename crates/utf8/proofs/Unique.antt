@@ -5,13 +5,15 @@ use mathlib.Core.Logic.{_↔_}
 use contract.Lifetimes.{Lfts}
 use denote.Ref.{now}
 use borrow.Fn.Kinds.{Dens}
+use Rattle.basics.specs.Unique.{OneAnswer, answer}
+use Rattle.basics.proofs.Unique.{one-answer}
 use Rattle.utf8.specs.Rfc3629.{IsText}
 use Rattle.utf8.proofs.Rfc3629.{sound, complete}
 use Rattle.utf8.proofs.is_utf8.Kinds.{ps}
 use Rattle.utf8.proofs.is_utf8.Reads.{Post}
 
-pub is-utf8-one : (κs : Lfts 1) (a : Dens κs ps) (r r' : Bool) → ((e : _) → Post κs a r e → Post κs a r' e → r ≡ r')
-is-utf8-one κs a r r' e p q = p ∙ sym q
+pub is-utf8-one : (κs : Lfts 1) (a : Dens κs ps) → OneAnswer (Post κs a) answer
+is-utf8-one κs a = one-answer (λ r e p. p)
 
 pub is-utf8-text : (κs : Lfts 1) (a : Dens κs ps) (r : Bool) → ((e : _) → Post κs a r e → (r ≡ true) ↔ IsText (now (a .0)))
 is-utf8-text κs a r e p = (λ y. sound (now (a .0)) (sym p ∙ y), λ i. p ∙ complete (now (a .0)) i)
