@@ -1,10 +1,11 @@
--- No second answer meets the contract of a C call: the result number and every lent byte are fixed. Assumes nothing.
-use Prim.Native.Nat.{ℕ}
-use mathlib.Core.Path.{_≡_}
+-- No second answer meets the contract of a C call, as the checker reads it: two result numbers, and two lists of lent
+-- bytes at exit, that it allows for the same arguments are equal. Assumes nothing.
 use borrow.Fn.Kinds.{Dens}
 use contract.Lifetimes.{Lfts}
 use denote.Ref.{now}
-use Rattle.tools.proofs.Unique.{same, gives-same}
+use Rattle.basics.specs.Unique.{OneAnswer, answer, answerAnd}
+use Rattle.basics.proofs.Unique.{one-answer}
+use Rattle.tools.proofs.Unique.{given}
 use Rattle.ebml.proofs.checks.ebml_check_table.Reads as ebml-check-table
 use Rattle.ebml.proofs.checks.ebml_check_table.Kinds as ebml-check-table-kinds
 use Rattle.ebml.proofs.numbers.ebml_read_vint.Reads as ebml-read-vint
@@ -28,44 +29,35 @@ use Rattle.ebml.proofs.numbers.ebml_arr_to_i64.Kinds as ebml-arr-to-i64
 use Rattle.ebml.proofs.numbers.ebml_arr_to_f64.Reads as ebml-arr-to-f64
 use Rattle.ebml.proofs.numbers.ebml_arr_to_f64.Kinds as ebml-arr-to-f64-kinds
 
-pub ebml-read-vint-one : (κs : Lfts 2) (a : Dens κs ebml-read-vint-kinds.ps) (r r' : ℕ) (e e' : _) → ebml-read-vint.Post κs a r e → ebml-read-vint.Post κs a r' e'
-    → (r ≡ r') × (now (e .1 .0) ≡ now (e' .1 .0))
-ebml-read-vint-one κs a r r' e e' p q = gives-same p q
+pub ebml-read-vint-one : (κs : Lfts 2) (a : Dens κs ebml-read-vint-kinds.ps) → OneAnswer (ebml-read-vint.Post κs a) (answerAnd (λ e. now (e .1 .0)))
+ebml-read-vint-one κs a = one-answer (λ r e p. given p)
 
-pub ebml-read-signed-vint-one : (κs : Lfts 2) (a : Dens κs ebml-read-signed-vint-kinds.ps) (r r' : ℕ) (e e' : _) → ebml-read-signed-vint.Post κs a r e → ebml-read-signed-vint.Post κs a r' e'
-    → (r ≡ r') × (now (e .1 .0) ≡ now (e' .1 .0))
-ebml-read-signed-vint-one κs a r r' e e' p q = gives-same p q
+pub ebml-read-signed-vint-one : (κs : Lfts 2) (a : Dens κs ebml-read-signed-vint-kinds.ps) → OneAnswer (ebml-read-signed-vint.Post κs a) (answerAnd (λ e. now (e .1 .0)))
+ebml-read-signed-vint-one κs a = one-answer (λ r e p. given p)
 
-pub ebml-as-vint-one : (κs : Lfts 1) (a : Dens κs ebml-as-vint-kinds.ps) (r r' : ℕ) (e e' : _) → ebml-as-vint.Post κs a r e → ebml-as-vint.Post κs a r' e'
-    → (r ≡ r') × (now (e .1 .0) ≡ now (e' .1 .0))
-ebml-as-vint-one κs a r r' e e' p q = gives-same p q
+pub ebml-as-vint-one : (κs : Lfts 1) (a : Dens κs ebml-as-vint-kinds.ps) → OneAnswer (ebml-as-vint.Post κs a) (answerAnd (λ e. now (e .1 .0)))
+ebml-as-vint-one κs a = one-answer (λ r e p. given p)
 
-pub ebml-as-vint-with-length-one : (κs : Lfts 1) (a : Dens κs ebml-as-vint-with-length-kinds.ps) (r r' : ℕ) (e e' : _) → ebml-as-vint-with-length.Post κs a r e → ebml-as-vint-with-length.Post κs a r' e'
-    → (r ≡ r') × (now (e .1 .1 .0) ≡ now (e' .1 .1 .0))
-ebml-as-vint-with-length-one κs a r r' e e' p q = gives-same p q
+pub ebml-as-vint-with-length-one : (κs : Lfts 1) (a : Dens κs ebml-as-vint-with-length-kinds.ps) → OneAnswer (ebml-as-vint-with-length.Post κs a) (answerAnd (λ e. now (e .1 .1 .0)))
+ebml-as-vint-with-length-one κs a = one-answer (λ r e p. given p)
 
-pub ebml-as-signed-vint-one : (κs : Lfts 1) (a : Dens κs ebml-as-signed-vint-kinds.ps) (r r' : ℕ) (e e' : _) → ebml-as-signed-vint.Post κs a r e → ebml-as-signed-vint.Post κs a r' e'
-    → (r ≡ r') × (now (e .1 .0) ≡ now (e' .1 .0))
-ebml-as-signed-vint-one κs a r r' e e' p q = gives-same p q
+pub ebml-as-signed-vint-one : (κs : Lfts 1) (a : Dens κs ebml-as-signed-vint-kinds.ps) → OneAnswer (ebml-as-signed-vint.Post κs a) (answerAnd (λ e. now (e .1 .0)))
+ebml-as-signed-vint-one κs a = one-answer (λ r e p. given p)
 
-pub ebml-as-signed-vint-with-length-one : (κs : Lfts 1) (a : Dens κs ebml-as-signed-vint-with-length-kinds.ps) (r r' : ℕ) (e e' : _) → ebml-as-signed-vint-with-length.Post κs a r e → ebml-as-signed-vint-with-length.Post κs a r' e'
-    → (r ≡ r') × (now (e .1 .1 .0) ≡ now (e' .1 .1 .0))
-ebml-as-signed-vint-with-length-one κs a r r' e e' p q = gives-same p q
+pub ebml-as-signed-vint-with-length-one : (κs : Lfts 1) (a : Dens κs ebml-as-signed-vint-with-length-kinds.ps) → OneAnswer (ebml-as-signed-vint-with-length.Post κs a) (answerAnd (λ e. now (e .1 .1 .0)))
+ebml-as-signed-vint-with-length-one κs a = one-answer (λ r e p. given p)
 
-pub ebml-is-vint-one : (κs : Lfts 0) (a : Dens κs ebml-is-vint-kinds.ps) (r r' : ℕ) (e : _) → ebml-is-vint.Post κs a r e → ebml-is-vint.Post κs a r' e → r ≡ r'
-ebml-is-vint-one κs a r r' e p q = same p q
+pub ebml-is-vint-one : (κs : Lfts 0) (a : Dens κs ebml-is-vint-kinds.ps) → OneAnswer (ebml-is-vint.Post κs a) answer
+ebml-is-vint-one κs a = one-answer (λ r e p. p)
 
-pub ebml-arr-to-u64-one : (κs : Lfts 2) (a : Dens κs ebml-arr-to-u64-kinds.ps) (r r' : ℕ) (e e' : _) → ebml-arr-to-u64.Post κs a r e → ebml-arr-to-u64.Post κs a r' e'
-    → (r ≡ r') × (now (e .1 .0) ≡ now (e' .1 .0))
-ebml-arr-to-u64-one κs a r r' e e' p q = gives-same p q
+pub ebml-arr-to-u64-one : (κs : Lfts 2) (a : Dens κs ebml-arr-to-u64-kinds.ps) → OneAnswer (ebml-arr-to-u64.Post κs a) (answerAnd (λ e. now (e .1 .0)))
+ebml-arr-to-u64-one κs a = one-answer (λ r e p. given p)
 
-pub ebml-arr-to-i64-one : (κs : Lfts 2) (a : Dens κs ebml-arr-to-i64-kinds.ps) (r r' : ℕ) (e e' : _) → ebml-arr-to-i64.Post κs a r e → ebml-arr-to-i64.Post κs a r' e'
-    → (r ≡ r') × (now (e .1 .0) ≡ now (e' .1 .0))
-ebml-arr-to-i64-one κs a r r' e e' p q = gives-same p q
+pub ebml-arr-to-i64-one : (κs : Lfts 2) (a : Dens κs ebml-arr-to-i64-kinds.ps) → OneAnswer (ebml-arr-to-i64.Post κs a) (answerAnd (λ e. now (e .1 .0)))
+ebml-arr-to-i64-one κs a = one-answer (λ r e p. given p)
 
-pub ebml-arr-to-f64-one : (κs : Lfts 2) (a : Dens κs ebml-arr-to-f64-kinds.ps) (r r' : ℕ) (e e' : _) → ebml-arr-to-f64.Post κs a r e → ebml-arr-to-f64.Post κs a r' e'
-    → (r ≡ r') × (now (e .1 .0) ≡ now (e' .1 .0))
-ebml-arr-to-f64-one κs a r r' e e' p q = gives-same p q
+pub ebml-arr-to-f64-one : (κs : Lfts 2) (a : Dens κs ebml-arr-to-f64-kinds.ps) → OneAnswer (ebml-arr-to-f64.Post κs a) (answerAnd (λ e. now (e .1 .0)))
+ebml-arr-to-f64-one κs a = one-answer (λ r e p. given p)
 
-pub ebml-check-table-one : (κs : Lfts 2) (a : Dens κs ebml-check-table-kinds.ps) (r r' : ℕ) (e : _) → ebml-check-table.Post κs a r e → ebml-check-table.Post κs a r' e → r ≡ r'
-ebml-check-table-one κs a r r' e p q = same p q
+pub ebml-check-table-one : (κs : Lfts 2) (a : Dens κs ebml-check-table-kinds.ps) → OneAnswer (ebml-check-table.Post κs a) answer
+ebml-check-table-one κs a = one-answer (λ r e p. p)

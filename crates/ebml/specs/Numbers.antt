@@ -7,7 +7,7 @@ use lib.Dec.{ltb}
 use lib.IntN.{ℤ}
 use lib.ListN.{length, drop}
 use Rattle.tools.specs.Bytes.{beBytes}
-use Rattle.tools.specs.Refusals.{numberOf}
+use Rattle.tools.specs.Refusals.{numberAndPlace}
 use Rattle.tools.specs.Twos.{bitsOf}
 use Rattle.tools.specs.declared.errors.ToolError.{ToolError}
 use Rattle.tools.specs.declared.errors.ToolError.the-variants.{OutputTooShort}
@@ -26,7 +26,7 @@ use Rattle.tools.specs.declared.float.ArrToF64.the-variants as float
 
 -- "A refusal gives 256 plus its number"
 abbrev pub refusalOf : ToolError → ℕ
-refusalOf e = 256 + numberOf e
+refusalOf e = 256 + numberAndPlace e .number
 
 -- "puts its value big-endian into the first 8 lent bytes", and answers the result; 5 where fewer are lent
 abbrev pub valueOut : ℕ → ℕ → List ℕ → ℕ × List ℕ

@@ -4,7 +4,7 @@ ghost use mathlib.Core.Path.{_≡_};
 ghost use Rattle.tools.specs.Answers.{Gives};
 ghost use Rattle.ebml.specs.Numbers.{refusalOf, codeOf, resultOf, valueOut, signedOut};
 use tools::errors::ToolError;
-use tools::errors::number;
+use tools::errors::number_and_place;
 use tools::integer::i64_to_arr;
 use tools::integer::u64_to_arr;
 use tools::vint::Written;
@@ -13,7 +13,7 @@ use tools::vint::Written;
 pub fn refusal(e: ToolError) -> u64
     ensures { λ r. ⌜ r ≡ refusalOf e ⌝ }
 {
-    256 + number(e)
+    256 + number_and_place(e).number
 }
 
 // The result of a writer: the length written, or a refusal.

@@ -16,7 +16,8 @@ use script_text::answers::put_signed;
 use script_text::answers::put_text;
 use script_text::answers::refused;
 use script_text::answers::yes_or_no;
-use tools::errors::number;
+use tools::errors::ToolError;
+use tools::errors::number_and_place;
 use tools::float::ArrToF64;
 use tools::float::arr_to_f64;
 use tools::integer::ArrToI64;
@@ -34,12 +35,19 @@ use tools::vint::as_vint_with_length;
 use tools::vint::is_vint;
 use tools::vint::read_vint;
 
+// A number routine's refusal: its number. Its place is 0, and is not printed.
+fn refused_at_0(e: ToolError, out: &mut [u8]) -> usize
+    ensures { λ r. ⌜ r ≤ length (now (out .entry)) ⌝ }
+{
+    refused(number_and_place(e).number, out)
+}
+
 fn vint_read(r: ReadVint, out: &mut [u8]) -> usize
     ensures { λ r. ⌜ r ≤ length (now (out .entry)) ⌝ }
 {
     match r {
         ReadVint::NeedMore => put(b'N', out, 0),
-        ReadVint::Refused(e) => refused(number(e), out),
+        ReadVint::Refused(e) => refused_at_0(e, out),
         ReadVint::Vint { value, length } => {
             let after_v = put_text(b"V ", out, 0);
             let after_value = put_decimal(value, out, after_v);
@@ -54,7 +62,7 @@ fn signed_vint_read(r: ReadSignedVint, out: &mut [u8]) -> usize
 {
     match r {
         ReadSignedVint::NeedMore => put(b'N', out, 0),
-        ReadSignedVint::Refused(e) => refused(number(e), out),
+        ReadSignedVint::Refused(e) => refused_at_0(e, out),
         ReadSignedVint::Vint { value, length } => {
             let after_v = put_text(b"V ", out, 0);
             let after_value = put_signed(value, out, after_v);
@@ -72,7 +80,7 @@ fn u64_read(r: ArrToU64, out: &mut [u8]) -> usize
             let at = put_text(b"V ", out, 0);
             put_decimal(n, out, at)
         }
-        ArrToU64::Refused(e) => refused(number(e), out),
+        ArrToU64::Refused(e) => refused_at_0(e, out),
     }
 }
 
@@ -84,7 +92,7 @@ fn i64_read(r: ArrToI64, out: &mut [u8]) -> usize
             let at = put_text(b"V ", out, 0);
             put_signed(v, out, at)
         }
-        ArrToI64::Refused(e) => refused(number(e), out),
+        ArrToI64::Refused(e) => refused_at_0(e, out),
     }
 }
 
@@ -96,7 +104,7 @@ fn bits_read(r: ArrToF64, out: &mut [u8]) -> usize
             let at = put_text(b"D ", out, 0);
             put_bits(bits, out, at)
         }
-        ArrToF64::Refused(e) => refused(number(e), out),
+        ArrToF64::Refused(e) => refused_at_0(e, out),
     }
 }
 
@@ -124,7 +132,7 @@ fn written(w: Written, bytes: &[u8], out: &mut [u8]) -> usize
             let at = put_text(b"B ", out, 0);
             put_hex(&bytes[0..n], out, at)
         }
-        Written::Refused(e) => refused(number(e), out),
+        Written::Refused(e) => refused_at_0(e, out),
     }
 }
 

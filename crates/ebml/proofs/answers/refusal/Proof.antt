@@ -5,14 +5,14 @@ use borrow.Author.Needs.{needs}
 use Rattle.ebml.proofs.answers.refusal.Statement.{statement}
 use Rattle.ebml.proofs.answers.refusal.Tie as tie
 
-number-requires : tie.Need-number-requires
-number-requires c κs = search needs
+number-and-place-requires : tie.Need-number-and-place-requires
+number-and-place-requires c κs = search needs
 
 add-result : tie.Need-add-result
-add-result c = omega (arith, number-small (c .before .args .e))
+add-result c = rw (c .before .number-and-place .ensures) (omega (arith, number-small (c .before .before .args .e)))
 
 returns : tie.Need-returns
-returns c = search needs
+returns c = rw (c .before .number-and-place .ensures)
 
 pub refusal-spec : {M : Type 1} → statement M
-refusal-spec = tie.close (tie.spec number-requires add-result returns)
+refusal-spec = tie.close (tie.spec number-and-place-requires add-result returns)
