@@ -12,9 +12,12 @@
  *  - A buffer that a call writes overlaps no other buffer of the same call, and no other thread uses it during the
  *    call.
  *
- * WHAT A CALL GIVES BACK: one result number.
- *  - EBML_REFUSED + n is refusal n, listed below. A refusal writes nothing.
- *  - Anything smaller is a success, or "need more"; each call says which.
+ * WHAT A CALL GIVES BACK: one result number. Ask it by the macros, in this order; the numbers behind them may change.
+ *  - EBML_IS_REFUSAL(n): the call refused, and EBML_REFUSAL(n) is the refusal's number, listed below; ebml_refusal_text
+ *    says it in words. A refusal writes nothing.
+ *  - EBML_NEEDS_MORE(n), of a call that reads a vint: the bytes end inside it, or there are none. Nothing is written:
+ *    lend them again with more behind them.
+ *  - Else the call succeeded; each call says what its result is.
  *  - A value goes big-endian into the first EBML_VALUE bytes of `out`, in two's complement if it is signed. No byte of
  *    `out` past the value, or past the vint that was written, is changed.
  */
@@ -31,8 +34,17 @@ extern "C" {
 /* The bytes of a value in `out`. */
 #define EBML_VALUE 8
 
-/* A result of at least this is a refusal, and its number is what it is more. */
+/* What is added to a refusal's number in a result. */
 #define EBML_REFUSED 256
+
+/* Whether a result is a refusal. */
+#define EBML_IS_REFUSAL(n) ((n) % 65536 / EBML_REFUSED == 1)
+
+/* The number of a result that is a refusal. */
+#define EBML_REFUSAL(n) ((int)((n) % 65536 - EBML_REFUSED))
+
+/* Whether the result of a call that reads a vint asks for more bytes. */
+#define EBML_NEEDS_MORE(n) ((n) == 0)
 
 enum ebml_refusal {
     EBML_READ_VINT_OVERFLOW = 1,         /* a vint's first byte is 0 */
@@ -45,7 +57,7 @@ enum ebml_refusal {
 };
 
 /* Reads the vint at the front of `buffer`: its value into `out`, its length (1 to 8) as the result.
- * 0: need more; `buffer` is empty, or shorter than the vint that begins there. A longer form than needed is read
+ * Need more: `buffer` is empty, or shorter than the vint that begins there. A longer form than needed is read
  * (40 01 is 1).
  * Refusals: 1, 5 (fewer than 8 bytes of `out`). */
 uint64_t ebml_read_vint(const uint8_t *buffer, size_t buffer_len, uint8_t *out, size_t out_len);
@@ -82,9 +94,13 @@ uint64_t ebml_arr_to_u64(const uint8_t *arr, size_t arr_len, uint8_t *out, size_
  * Refusals: 6, 5. */
 uint64_t ebml_arr_to_i64(const uint8_t *arr, size_t arr_len, uint8_t *out, size_t out_len);
 
-/* The float of 4 or 8 big-endian bytes, as the 64 bits of a double; the result is 8. Four bytes are widened exactly. A
- * NaN keeps sign and fraction and becomes quiet. Refusals: 7, 5. */
+/* The float of 4 or 8 big-endian bytes, as the 64 bits of a double; the result is 8. Eight bytes come back as they are,
+ * those of a NaN too. Four bytes are widened exactly; a NaN among them keeps sign and fraction and becomes quiet.
+ * Refusals: 7, 5. */
 uint64_t ebml_arr_to_f64(const uint8_t *arr, size_t arr_len, uint8_t *out, size_t out_len);
+
+/* 1 where the bytes are a text in UTF-8 by RFC 3629, else 0. No byte at all is a text. */
+uint64_t ebml_is_utf8(const uint8_t *s, size_t s_len);
 
 /* ---- the table of elements
  *
@@ -117,13 +133,78 @@ enum ebml_table_fault {
 
 /* Of a result of ebml_check_table that is not 0: the refusal's number, and the lowest faulty entry, counted from 0
  * (0 for EBML_TABLE_SHAPE). */
-#define EBML_CHECK_NUMBER(result) ((int)((result) % 65536 - EBML_REFUSED))
+#define EBML_CHECK_NUMBER(result) EBML_REFUSAL(result)
 #define EBML_CHECK_ENTRY(result) ((size_t)((result) / 65536))
 
 /* Checks a table once, as a gateway does when it starts: 0 if it passed, else EBML_REFUSED + number + 65536 * entry,
  * for the lowest faulty entry and the first rule that it breaks. The lengths count words. Other calls take any table of
  * good shape. */
 uint64_t ebml_check_table(const uint64_t *entries, size_t entries_len, const uint64_t *parts, size_t parts_len);
+
+/* ---- in plain C: the value that a call handed out, as a number of C */
+
+/* The EBML_VALUE bytes as an unsigned number. */
+static inline uint64_t ebml_u64(const uint8_t *value)
+{
+    uint64_t n = 0;
+    for (size_t i = 0; i < EBML_VALUE; i++)
+        n = n * 256 + value[i];
+    return n;
+}
+
+/* The same bytes as a signed number. */
+static inline int64_t ebml_i64(const uint8_t *value)
+{
+    uint64_t n = ebml_u64(value);
+    return n <= INT64_MAX ? (int64_t)n : -(int64_t)(UINT64_MAX - n) - 1;
+}
+
+/* The same bytes as a double, of a machine whose doubles are IEEE 754's. */
+static inline double ebml_f64(const uint8_t *value)
+{
+    const uint64_t bits = ebml_u64(value);
+    const unsigned char *from = (const unsigned char *)&bits;
+    double d = 0;
+    unsigned char *to = (unsigned char *)&d;
+    for (size_t i = 0; i < sizeof d; i++)
+        to[i] = from[i];
+    return d;
+}
+
+/* A refusal's number in words; docs/GATEWAY.md says of each what to do. The text is never null and not to be freed. */
+static inline const char *ebml_refusal_text(int number)
+{
+    switch (number) {
+    case 1: return "a vint's first byte is 0";
+    case 2: return "the value is too large for a vint of this width";
+    case 3: return "the value is too large or too small for a signed vint of this width";
+    case 4: return "the width is not 1 to 8";
+    case 5: return "the lent output is too short";
+    case 6: return "an integer of over 8 bytes";
+    case 7: return "a float that is not of 4 or 8 bytes";
+    case 10: return "the table has a bad shape";
+    case 11: return "the decoder's record is none that the decoder leaves";
+    case 12: return "the stream is longer than 2^62 bytes";
+    case 13: return "bytes after the finish";
+    case 14: return "an element's size or data is damaged";
+    case 15: return "an ID that the table does not have";
+    case 16: return "an element at a place where the table does not allow it";
+    case 17: return "an element larger than the greatest size that is allowed";
+    case 18: return "an element that reaches past the end of the master around it";
+    case 19: return "more than 32 masters open";
+    case 20: return "text that is not UTF-8";
+    case 21: return "a float that is not of 0, 4 or 8 bytes";
+    case 22: return "an integer of over 8 bytes in an element";
+    case 23: return "the input ended inside an element";
+    case 24: return "the table closes an element that is no master";
+    case 31: return "the table has an ID that no vint has";
+    case 32: return "the table has an ID twice";
+    case 33: return "a master's path in the table holds a global part";
+    case 34: return "a path in the table names an ID that is no master of it";
+    case 35: return "two paths in the table disagree about a master's parents";
+    default: return "no refusal has this number";
+    }
+}
 
 #ifdef __cplusplus
 }

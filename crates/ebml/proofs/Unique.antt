@@ -28,6 +28,8 @@ use Rattle.ebml.proofs.numbers.ebml_arr_to_i64.Reads as ebml-arr-to-i64
 use Rattle.ebml.proofs.numbers.ebml_arr_to_i64.Kinds as ebml-arr-to-i64-kinds
 use Rattle.ebml.proofs.numbers.ebml_arr_to_f64.Reads as ebml-arr-to-f64
 use Rattle.ebml.proofs.numbers.ebml_arr_to_f64.Kinds as ebml-arr-to-f64-kinds
+use Rattle.ebml.proofs.text.ebml_is_utf8.Reads as ebml-is-utf8
+use Rattle.ebml.proofs.text.ebml_is_utf8.Kinds as ebml-is-utf8-kinds
 
 pub ebml-read-vint-one : (κs : Lfts 2) (a : Dens κs ebml-read-vint-kinds.ps) → OneAnswer (ebml-read-vint.Post κs a) (answerAnd (λ e. now (e .1 .0)))
 ebml-read-vint-one κs a = one-answer (λ r e p. given p)
@@ -61,3 +63,6 @@ ebml-arr-to-f64-one κs a = one-answer (λ r e p. given p)
 
 pub ebml-check-table-one : (κs : Lfts 2) (a : Dens κs ebml-check-table-kinds.ps) → OneAnswer (ebml-check-table.Post κs a) answer
 ebml-check-table-one κs a = one-answer (λ r e p. p)
+
+pub ebml-is-utf8-one : (κs : Lfts 1) (a : Dens κs ebml-is-utf8-kinds.ps) → OneAnswer (ebml-is-utf8.Post κs a) answer
+ebml-is-utf8-one κs a = one-answer (λ r e p. p)

@@ -3,3 +3,4 @@
 mod answers;
 pub mod checks;
 pub mod numbers;
+pub mod text;
