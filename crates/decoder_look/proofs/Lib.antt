@@ -1,3 +1,4 @@
 pub mod Shown
 pub mod LeastEnd
 pub mod OnePass
+pub mod Unique

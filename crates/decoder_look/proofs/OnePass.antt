@@ -2,11 +2,11 @@
 use Prim.Native.Nat.{ℕ, suc, _+_, _-_, _^_, min, _≤_, _<_}
 use mathlib.Core.Path.{_≡_, sym, ap, _∙_}
 use mathlib.Core.Bool.{Bool, true, false, cond, _&&_}
-use mathlib.Core.List.{List, _∷_}
-use native.Mathlib.Decide.{decLe}
+use mathlib.Core.List.{List, _∷_, _++_, map}
+use native.Mathlib.Decide.{decLe, decLt}
 use native.Mathlib.Omega.{arith}
-use lib.ListN.{length, getD, set, drop, drop-of-length-le}
-use lib.Seq.{drop-cons, getD-set-same, getD-set-other}
+use lib.ListN.{length, getD, set, drop, drop-of-length-le, length-map, length-append, length-drop, List·getD-append, List·getD-map}
+use lib.Seq.{drop-cons, getD-set-same, getD-set-other, getD-append-add, getD-drop, ext-getD}
 use Rattle.basics.specs.Lists.{every, firstIndex}
 use Rattle.spec_util.specs.Walk.{noTag}
 use Rattle.spec_util.specs.declared.types.OpenTag.{OpenTag}
@@ -89,3 +89,33 @@ module _ {A : Type 0} (f : OpenTag → A) (z : A) (l : List OpenTag) (xs : List 
       go (no n) =
           let q : j ≡ i - 1 = omega (arith, n) in
           ap (λ (x : ℕ). getD (set xs (i - 1) (f m)) x z) q ∙ getD-set-same xs (i - 1) (f m) z (omega arith) ∙ ap f (e ∙ ap (λ (x : ℕ). getD l x noTag) (sym q))
+
+-- the places past the masters are as they were
+abbrev pub KeptPast : {A : Type 0} → A → List OpenTag → List A → List A → Type 0
+KeptPast z l before xs = (j : ℕ) → length l ≤ j → getD xs j z ≡ getD before j z
+
+module _ {A : Type 0} (f : OpenTag → A) (z : A) (l : List OpenTag) (before xs : List A) where
+  -- one master more is written below them
+  pub kept-next : {i : ℕ} → 0 < i → i ≤ length l → (a : A) → KeptPast z l before xs → KeptPast z l before (set xs (i - 1) a)
+  kept-next {i} k h a kept j b = getD-set-other xs (i - 1) j a z (λ q. absurd (omega (arith, q))) ∙ kept j b
+
+  -- at the bottom the masters stand in front of what was past them
+  pub written-all : {i : ℕ} → z ≡ f noTag → i ≤ 0 → length l ≤ length before → length xs ≡ length before → Written f z l xs i → KeptPast z l before xs
+      → xs ≡ map f l ++ drop (length l) before
+  written-all {i} none e short long w kept = ext-getD z xs (map f l ++ drop (length l) before) (long ∙ sym all) (λ j b. go j (decLt j (length l)))
+    where
+      n : length (map f l) ≡ length l
+      n = length-map l f
+
+      all : length (map f l ++ drop (length l) before) ≡ length before
+      all = length-append (map f l) (drop (length l) before) ∙ omega (arith, n, length-drop (length l) before)
+
+      go : (j : ℕ) → Dec (j < length l) → getD xs j z ≡ getD (map f l ++ drop (length l) before) j z
+      go j (yes h) =
+          w j (omega arith) h ∙ sym (List·getD-map f l j noTag) ∙ ap (λ (x : A). getD (map f l) j x) (sym none)
+          ∙ sym (List·getD-append (map f l) (drop (length l) before) z j (omega (arith, n)))
+      go j (no g) =
+          let q : length (map f l) + (j - length l) ≡ j = omega (arith, n, g) in
+          let k : length l + (j - length l) ≡ j = omega (arith, g) in
+          kept j (omega (arith, g)) ∙ ap (λ (x : ℕ). getD before x z) (sym k) ∙ sym (getD-drop (length l) before (j - length l) z)
+          ∙ sym (getD-append-add (map f l) (drop (length l) before) (j - length l) z) ∙ ap (λ (x : ℕ). getD (map f l ++ drop (length l) before) x z) q

@@ -1,13 +1,30 @@
 -- Masters whose IDs stand in lent words. Assumes nothing.
-use Prim.Native.Nat.{ℕ, zero, suc, _≤_}
-use mathlib.Core.Path.{_≡_, refl, sym, _∙_}
+use Prim.Native.Nat.{ℕ, zero, suc, _≤_, _<_}
+use mathlib.Core.Path.{_≡_, refl, sym, ap, _∙_}
 use mathlib.Core.Bool.{Bool}
-use mathlib.Core.List.{List, [], _∷_, map}
-use lib.ListN.{length, take, drop, length-map, List·getD-map}
+use mathlib.Core.List.{List, [], _∷_, _++_, map}
+use native.Mathlib.Omega.{arith}
+use lib.ListN.{length, getD, take, drop, length-map, List·getD-map, List·getD-append}
 use lib.Seq.{length-take-le, getD-take, ext-getD}
 use Rattle.basics.specs.Lists.{every}
-use Rattle.spec_util.specs.Walk.{noTag, ShownIds}
+use Rattle.spec_util.specs.Walk.{noTag, ShownIds, Shown}
 use Rattle.spec_util.specs.declared.types.OpenTag.{OpenTag}
+use Rattle.decoder_look.specs.Summary.{ShownInFront}
+
+module _ {A : Type 0} (f : OpenTag → A) (l : List OpenTag) {n : ℕ} (many : length l ≡ n) (past xs : List A) (left : xs ≡ map f l ++ past) where
+  -- words with a value of each master in front show it at each place
+  in-front : (i : ℕ) → i < n → getD xs i (f noTag) ≡ f (getD l i noTag)
+  in-front i h =
+      let k : i < length (map f l) = omega (arith, many, length-map l f) in
+      ap (λ (x : List A). getD x i (f noTag)) left ∙ List·getD-append (map f l) past (f noTag) i k ∙ List·getD-map f l i noTag
+
+-- masters in front of lent words are shown by them
+pub shown-in-front : {ids ids' : List ℕ} {knowns knowns' : List Bool} {n : ℕ} {l : List OpenTag} → ShownInFront ids ids' knowns knowns' n l → Shown ids' knowns' n l
+shown-in-front {ids' = ids'} {knowns' = knowns'} {l = l} s =
+    record {
+      shown-ids = record { many = s .many; ids-are = in-front (λ m. m .id) l (s .many) _ ids' (s .ids-left) };
+      knowns-are = in-front (λ m. m .known) l (s .many) _ knowns' (s .knowns-left);
+    }
 
 abbrev idOf : OpenTag → ℕ
 idOf m = m .id

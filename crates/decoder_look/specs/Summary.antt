@@ -2,8 +2,9 @@
 -- lent to them.
 use Prim.Native.Nat.{ℕ, _-_, _^_, min}
 use mathlib.Core.Bool.{Bool, cond}
-use mathlib.Core.List.{List, [], _∷_}
+use mathlib.Core.List.{List, [], _∷_, _++_, map}
 use mathlib.Core.Path.{_≡_}
+use lib.ListN.{length, drop}
 use Rattle.spec_util.specs.Walk.{mostOpen, ShownIds, Shown}
 use Rattle.spec_util.specs.declared.types.OpenTag.{OpenTag}
 use Rattle.decoder_rules.specs.Record.{opens, endOf}
@@ -34,6 +35,13 @@ headerView d = record {
 -- what steps 1 to 11 ask of the record
 abbrev pub summary : TagDecoder → Summary
 summary d = record { «is_state_good» = goodState d; finished = d .finished; «waiting_count» = d .«waiting_count»; «first_full» = step3 d; view = headerView d }
+
+-- n masters at the front of words that are lent: their IDs, and whether the size of each is known; the words past them
+-- are as they were. The lists are those at entry and at exit
+pub record ShownInFront (ids ids' : List ℕ) (knowns knowns' : List Bool) (n : ℕ) (l : List OpenTag) : Type 0 where
+  pub many : length l ≡ n
+  pub ids-left : ids' ≡ map (λ m. m .id) l ++ drop n ids
+  pub knowns-left : knowns' ≡ map (λ m. m .known) l ++ drop n knowns
 
 -- ---- a promise that is made of every record, or every list of masters, that the lent words show
 

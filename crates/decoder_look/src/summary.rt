@@ -8,8 +8,8 @@ ghost use lib.Dec.{leb};
 ghost use lib.ListN.{length};
 ghost use Rattle.decoder_rules.specs.Record.{farthest, opens};
 ghost use Rattle.decoder_rules.specs.OneCall.{goodOpen, isFull};
-ghost use Rattle.spec_util.specs.Walk.{mostOpen, Shown};
-ghost use Rattle.decoder_look.specs.Summary.{shownEnd, summary};
+ghost use Rattle.spec_util.specs.Walk.{mostOpen};
+ghost use Rattle.decoder_look.specs.Summary.{shownEnd, summary, ShownInFront};
 use crate::places::is_full;
 use decoder_rules::types::FARTHEST;
 use decoder_rules::types::SIZE_LIMIT;
@@ -115,11 +115,11 @@ fn least_end_with(least: u64, m: OpenTag) -> u64
     least
 }
 
-// What the tests of a call ask of the record, with its open masters in the lent words. It goes from the top down, so
-// that the last that is found full is the outermost.
+// What the tests of a call ask of the record, with its open masters in front of the lent words, which stay as they were
+// past them. It goes from the top down, so that the last that is found full is the outermost.
 pub fn summarize(d: TagDecoder, ids: &mut [u64], knowns: &mut [bool]) -> Summary
     requires { ⌜ (length (now ids) ≡ mostOpen) × (length (now knowns) ≡ mostOpen) ⌝ }
-    ensures { λ r. ⌜ (r ≡ summary d) × Shown (now (ids .exit)) (now (knowns .exit)) (min (d .«open_count») mostOpen) (opens d) ⌝ }
+    ensures { λ r. ⌜ (r ≡ summary d) × ShownInFront (now (ids .entry)) (now (ids .exit)) (now (knowns .entry)) (now (knowns .exit)) (min (d .«open_count») mostOpen) (opens d) ⌝ }
 {
     let position = d.position;
     let mut sound = true;

@@ -78,3 +78,12 @@ pub validate-shown : (t : List Entry) (id : ℕ) {ids : List ℕ} {knowns : List
     → Shown ids knowns n l → validateTagPath t id (mastersShown ids knowns n) ≡ validateTagPath t id l
 unfolding validateTagPath
 validate-shown t id hi hk shown = walk-shown t (pathOf t id) id 0 0 hi hk shown
+
+-- and the words show the masters that are read off them
+pub shows-those-read : (ids : List ℕ) (knowns : List Bool) (n : ℕ) → n ≤ length ids → n ≤ length knowns → Shown ids knowns n (mastersShown ids knowns n)
+shows-those-read ids knowns n hi hk =
+    let many : length (mastersShown ids knowns n) ≡ n = length-shown ids knowns n ∙ omega arith in
+    record {
+      shown-ids = record { many = many; ids-are = λ i h. sym (shown-id ids knowns n i (omega arith)) };
+      knowns-are = λ i h. sym (shown-known ids knowns n i (omega arith));
+    }

@@ -1,14 +1,10 @@
 -- No second answer meets the contract of a public call, as the checker reads it: the answer, the count of bytes taken
--- and every place of the new record are fixed. Assumes nothing.
-use Prim.Native.Nat.{ℕ}
-use mathlib.Core.Path.{_≡_}
-use mathlib.Core.Bool.{Bool}
+-- and every place of the new record are fixed, whatever the exit. What is lent is lent to be read alone. Assumes
+-- nothing.
 use borrow.Fn.Kinds.{Dens}
 use contract.Lifetimes.{Lfts}
-use Rattle.tools.proofs.Unique.{same}
-use Rattle.decoder_rules.specs.declared.types.Decoded.{Decoded}
-use Rattle.decoder_rules.specs.declared.types.Recovered.{Recovered}
-use Rattle.decoder_rules.specs.declared.types.TagDecoder.{TagDecoder}
+use Rattle.basics.specs.Unique.{OneAnswer, answer}
+use Rattle.basics.proofs.Unique.{one-answer}
 use Rattle.tag_decoder.proofs.calls.decode.Reads as decode
 use Rattle.tag_decoder.proofs.calls.decode.Kinds as decode-kinds
 use Rattle.tag_decoder.proofs.calls.decode_eof.Reads as decode-eof
@@ -26,26 +22,26 @@ use Rattle.tag_decoder.proofs.settings.position.Kinds as position-kinds
 use Rattle.tag_decoder.proofs.settings.is_finished.Reads as is-finished
 use Rattle.tag_decoder.proofs.settings.is_finished.Kinds as is-finished-kinds
 
-pub decode-one : (κs : Lfts 3) (a : Dens κs decode-kinds.ps) (r r' : Decoded) (e : _) → decode.Post κs a r e → decode.Post κs a r' e → r ≡ r'
-decode-one κs a r r' e p q = same p q
+pub decode-one : (κs : Lfts 3) (a : Dens κs decode-kinds.ps) → OneAnswer (decode.Post κs a) answer
+decode-one κs a = one-answer (λ r e p. p)
 
-pub decode-eof-one : (κs : Lfts 3) (a : Dens κs decode-eof-kinds.ps) (r r' : Decoded) (e : _) → decode-eof.Post κs a r e → decode-eof.Post κs a r' e → r ≡ r'
-decode-eof-one κs a r r' e p q = same p q
+pub decode-eof-one : (κs : Lfts 3) (a : Dens κs decode-eof-kinds.ps) → OneAnswer (decode-eof.Post κs a) answer
+decode-eof-one κs a = one-answer (λ r e p. p)
 
-pub try-recover-one : (κs : Lfts 3) (a : Dens κs try-recover-kinds.ps) (r r' : Recovered) (e : _) → try-recover.Post κs a r e → try-recover.Post κs a r' e → r ≡ r'
-try-recover-one κs a r r' e p q = same p q
+pub try-recover-one : (κs : Lfts 3) (a : Dens κs try-recover-kinds.ps) → OneAnswer (try-recover.Post κs a) answer
+try-recover-one κs a = one-answer (λ r e p. p)
 
-pub new-one : (κs : Lfts 0) (a : Dens κs new-kinds.ps) (r r' : TagDecoder) (e : _) → new.Post κs a r e → new.Post κs a r' e → r ≡ r'
-new-one κs a r r' e p q = same p q
+pub new-one : (κs : Lfts 0) (a : Dens κs new-kinds.ps) → OneAnswer (new.Post κs a) answer
+new-one κs a = one-answer (λ r e p. p)
 
-pub allow-errors-one : (κs : Lfts 0) (a : Dens κs allow-errors-kinds.ps) (r r' : TagDecoder) (e : _) → allow-errors.Post κs a r e → allow-errors.Post κs a r' e → r ≡ r'
-allow-errors-one κs a r r' e p q = same p q
+pub allow-errors-one : (κs : Lfts 0) (a : Dens κs allow-errors-kinds.ps) → OneAnswer (allow-errors.Post κs a) answer
+allow-errors-one κs a = one-answer (λ r e p. p)
 
-pub set-max-one : (κs : Lfts 0) (a : Dens κs set-max-kinds.ps) (r r' : TagDecoder) (e : _) → set-max.Post κs a r e → set-max.Post κs a r' e → r ≡ r'
-set-max-one κs a r r' e p q = same p q
+pub set-max-one : (κs : Lfts 0) (a : Dens κs set-max-kinds.ps) → OneAnswer (set-max.Post κs a) answer
+set-max-one κs a = one-answer (λ r e p. p)
 
-pub position-one : (κs : Lfts 0) (a : Dens κs position-kinds.ps) (r r' : ℕ) (e : _) → position.Post κs a r e → position.Post κs a r' e → r ≡ r'
-position-one κs a r r' e p q = same p q
+pub position-one : (κs : Lfts 0) (a : Dens κs position-kinds.ps) → OneAnswer (position.Post κs a) answer
+position-one κs a = one-answer (λ r e p. p)
 
-pub is-finished-one : (κs : Lfts 0) (a : Dens κs is-finished-kinds.ps) (r r' : Bool) (e : _) → is-finished.Post κs a r e → is-finished.Post κs a r' e → r ≡ r'
-is-finished-one κs a r r' e p q = same p q
+pub is-finished-one : (κs : Lfts 0) (a : Dens κs is-finished-kinds.ps) → OneAnswer (is-finished.Post κs a) answer
+is-finished-one κs a = one-answer (λ r e p. p)

@@ -7,7 +7,7 @@ use lib.ListN.{length}
 use Rattle.table.specs.Table.{tableOf, dataTypeOf, isMaster}
 use Rattle.decoder_rules.specs.Record.{opens}
 use Rattle.spec_util.specs.Walk.{ShownIds}
-use Rattle.decoder_look.proofs.Shown.{every-shown}
+use Rattle.decoder_look.proofs.Shown.{shown-in-front, every-shown}
 use Rattle.decoder_decide.proofs.whole.all_masters_of.Statement.{statement}
 use Rattle.decoder_decide.proofs.whole.all_masters_of.Tie as tie
 
@@ -35,7 +35,7 @@ returns c =
     let many : length (k .summarize .last .1 .0) ≡ 32 = search needs in
     let h : d .«open_count» ≤ length (k .summarize .last .1 .0) = omega (arith, t .pre) in
     c .all-masters .ensures
-    ∙ every-shown (λ x. isMaster (dataTypeOf (tableOf (t .args .entries .now) (t .args .parts .now)) x)) 0 h (subst (λ (x : ℕ). ShownIds (k .summarize .last .1 .0) x (opens d)) n (k .summarize .ensures .1 .shown-ids))
+    ∙ every-shown (λ x. isMaster (dataTypeOf (tableOf (t .args .entries .now) (t .args .parts .now)) x)) 0 h (subst (λ (x : ℕ). ShownIds (k .summarize .last .1 .0) x (opens d)) n (shown-in-front (k .summarize .ensures .1) .shown-ids))
 
 pub all-masters-of-spec : {M : Type 1} → statement M
 all-masters-of-spec =

@@ -7,6 +7,7 @@ use lib.ListN.{length}
 use Rattle.decoder_rules.specs.Record.{opens}
 use Rattle.spec_util.specs.Walk.{Shown}
 use Rattle.decoder_look.specs.Summary.{headerView}
+use Rattle.decoder_look.proofs.Shown.{shown-in-front}
 use Rattle.decoder_look.specs.declared.summary.Summary.{Summary}
 use Rattle.decoder_look.specs.declared.summary.HeaderView.{HeaderView}
 use Rattle.decoder_decide.proofs.whole.valid_header_of.Statement.{statement}
@@ -47,7 +48,7 @@ returns c =
     let t = k .before .before .before .before .before in
     let d = t .args .d in
     let n : min (d .«open_count») 32 ≡ k .summarize .result .view .count = sym (ap (λ (s : HeaderView). s .count) (is-seen k) ∙ omega (arith, t .pre .0 .0)) in
-    c .valid-header .ensures d (is-seen k) (subst (λ (x : ℕ). Shown (k .summarize .last .1 .0) (k .summarize .last .1 .1 .0) x (opens d)) n (k .summarize .ensures .1))
+    c .valid-header .ensures d (is-seen k) (subst (λ (x : ℕ). Shown (k .summarize .last .1 .0) (k .summarize .last .1 .1 .0) x (opens d)) n (shown-in-front (k .summarize .ensures .1)))
 
 pub valid-header-of-spec : {M : Type 1} → statement M
 valid-header-of-spec =

@@ -1,7 +1,7 @@
 -- `decoder_look::summary::summarize`. The invariant: from place i on the masters are found and written. Assumes
 -- nothing.
 use Prim.Native.Nat.{ℕ, _-_, min, _≤_, _<_}
-use mathlib.Core.Path.{_≡_, sym, _∙_}
+use mathlib.Core.Path.{_≡_, refl, sym, ap, _∙_}
 use mathlib.Core.Bool.{Bool, false}
 use mathlib.Core.List.{List}
 use native.Mathlib.Omega.{arith}
@@ -11,21 +11,23 @@ use Rattle.spec_util.specs.Walk.{noTag}
 use Rattle.spec_util.specs.declared.types.OpenTag.{OpenTag}
 use Rattle.decoder_rules.specs.OneCall.{goodState}
 use Rattle.basics.proofs.ArrayOf32.{length-of-map}
-use Rattle.decoder_look.proofs.OnePass.{Found, found-none, found-next, found-sound, found-done, found-least, Written, written-none, written-next}
+use Rattle.decoder_look.proofs.OnePass.{Found, found-none, found-next, found-sound, found-done, found-least, Written, written-none, written-next, KeptPast, kept-next, written-all}
 use Rattle.decoder_look.proofs.summary.summarize.Statement.{statement}
 use Rattle.decoder_look.proofs.summary.summarize.Tie as tie
 
-record NoneBefore (p : ℕ) (l : List OpenTag) (ids : List ℕ) (knowns : List Bool) (sound : Bool) (done least i : ℕ) : Type 0 where
+record NoneBefore (p : ℕ) (l : List OpenTag) (ids₀ ids : List ℕ) (knowns₀ knowns : List Bool) (sound : Bool) (done least i : ℕ) : Type 0 where
   pub within : i ≤ length l
   pub short : length l ≤ 32
   pub ids-long : length ids ≡ 32
   pub knowns-long : length knowns ≡ 32
+  pub ids-kept : KeptPast 0 l ids₀ ids
+  pub knowns-kept : KeptPast false l knowns₀ knowns
   pub found : Found p l sound done least i
   pub ids-written : Written (λ m. m .id) 0 l ids i
   pub knowns-written : Written (λ m. m .known) false l knowns i
 
 abbrev Inv-loop : tie.InvT-loop
-Inv-loop ids₀ knowns₀ d position sound₀ done₀ least₀ i₀ ids knowns sound done least i = NoneBefore position (take (d .«open_count») (d .«open»)) ids knowns sound done least i
+Inv-loop ids₀ knowns₀ d position sound₀ done₀ least₀ i₀ ids knowns sound done least i = NoneBefore position (take (d .«open_count») (d .«open»)) ids₀ ids knowns₀ knowns sound done least i
 
 abbrev μ-loop : tie.MeasureT-loop
 μ-loop ids₀ knowns₀ d position sound₀ done₀ least₀ i₀ ids knowns sound done least i = i
@@ -52,6 +54,8 @@ loop-holds c =
       short = short;
       ids-long = s .pre .0;
       knowns-long = s .pre .1;
+      ids-kept = λ j h. refl;
+      knowns-kept = λ j h. refl;
       found = found-none (d .position) l n e;
       ids-written = written-none (λ m. m .id) 0 l (s .args .ids .now) n e;
       knowns-written = written-none (λ m. m .known) false l (s .args .knowns .now) n e;
@@ -90,23 +94,26 @@ loop-less c = omega arith
 loop-again : tie.Need-loop-again Inv-loop μ-loop
 loop-again c =
     let t = c .before .before .before .before .before in
-    let d = t .before .before .before .before .args .t1 in
+    let a = t .before .before .before .before .args in
+    let d = a .t1 in
     let l = take (d .«open_count») (d .«open») in
     let v = t .loop .inv in
     let i = t .loop .i in
     let k : 0 < i = c .before .before .before .before .loop-test .taken in
     let w = v .within in
     let s = v .short in
-    let a = v .ids-long in
-    let b = v .knowns-long in
+    let ids-many = v .ids-long in
+    let knowns-many = v .knowns-long in
     let q : i ≤ d .«open_count» = omega (arith, length-take (d .«open_count») (d .«open»)) in
     let m = getD (d .«open») (i - 1) noTag in
     let e : m ≡ getD l (i - 1) noTag = sym (getD-take (d .«open_count») (d .«open») (i - 1) noTag (omega arith)) in
     record {
       within = omega arith;
       short = s;
-      ids-long = length-set (t .loop .ids) _ _ ∙ a;
-      knowns-long = length-set (t .loop .knowns) _ _ ∙ b;
+      ids-long = length-set (t .loop .ids) _ _ ∙ ids-many;
+      knowns-long = length-set (t .loop .knowns) _ _ ∙ knowns-many;
+      ids-kept = kept-next (λ m. m .id) 0 l (a .ids .now) (t .loop .ids) k w _ (v .ids-kept);
+      knowns-kept = kept-next (λ m. m .known) false l (a .knowns .now) (t .loop .knowns) k w _ (v .knowns-kept);
       found = found-next (d .position) l k w m e (v .found) (c .before .before .good-with .ensures) (c .before .first-full-with .ensures) (c .least-end-with .ensures);
       ids-written = written-next (λ m. m .id) 0 l (t .loop .ids) k (omega arith) m e (v .ids-written);
       knowns-written = written-next (λ m. m .known) false l (t .loop .knowns) k (omega arith) m e (v .knowns-written);
@@ -130,11 +137,14 @@ returns c =
     let l = take (d .«open_count») (d .«open») in
     let v = t .loop .inv in
     let z : t .loop .i ≤ 0 = c .before .before .loop-test .left in
-    let n = many s in (
+    let n = many s in
+    let fits : length l ≤ length (s .args .ids .now) = omega (arith, v .short, s .pre .0) in
+    let fits' : length l ≤ length (s .args .knowns .now) = omega (arith, v .short, s .pre .1) in (
       rw (c .is-state-good .ensures, found-sound (d .position) l (v .found) z, found-done (d .position) l (v .found) z, found-least (d .position) l (v .found) z),
       record {
-        shown-ids = record { many = n; ids-are = λ i h. v .ids-written i (omega arith) (rw n h) };
-        knowns-are = λ i h. v .knowns-written i (omega arith) (rw n h);
+        many = n;
+        ids-left = rw (← n) (written-all (λ m. m .id) 0 l (s .args .ids .now) (t .loop .ids) refl z fits (v .ids-long ∙ sym (s .pre .0)) (v .ids-written) (v .ids-kept));
+        knowns-left = rw (← n) (written-all (λ m. m .known) false l (s .args .knowns .now) (t .loop .knowns) refl z fits' (v .knowns-long ∙ sym (s .pre .1)) (v .knowns-written) (v .knowns-kept));
       },
     )
 

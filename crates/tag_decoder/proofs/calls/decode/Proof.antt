@@ -11,6 +11,7 @@ use Rattle.decoder_rules.specs.Deciding.{decide}
 use Rattle.decoder_rules.specs.Moving.{gives, move, apply, decode}
 use Rattle.decoder_rules.specs.declared.types.Action.{Action}
 use Rattle.decoder_rules.specs.declared.types.TagDecoder.{TagDecoder}
+use Rattle.decoder_look.proofs.Shown.{shown-in-front}
 use Rattle.decoder_decide.proofs.SettledView.{sound-summary}
 use Rattle.decoder_move.specs.Applies.{ActionApplies, DecisionApplies}
 use Rattle.decoder_move.proofs.DecisionApplies.{decide-applies, note-settles, noted-long, hands-out, closes, starts, passes-on}
@@ -25,7 +26,7 @@ start c = c .before .before .before .before .before .before
 
 -- what was seen decides for the record
 decided : (c : tie.After-decide) → let a = start (c .before .before .before .before .before) .args in c .decide .result ≡ decide (a .entries .now) (a .parts .now) (a .t3) (a .input .now)
-decided c = let k = c .before .before .before .before .before in c .decide .ensures (start k .args .t3) (k .summarize .ensures .0) (k .summarize .ensures .1)
+decided c = let k = c .before .before .before .before .before in c .decide .ensures (start k .args .t3) (k .summarize .ensures .0) (shown-in-front (k .summarize .ensures .1))
 
 -- what was decided fits
 fits : (c : tie.After-decide) → let a = start (c .before .before .before .before .before) .args in DecisionApplies (a .parts .now) (a .t3) (length (a .input .now)) (c .decide .result)
