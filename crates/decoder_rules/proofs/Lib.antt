@@ -8,4 +8,5 @@ pub mod HeaderPath
 pub mod EndExits
 pub mod AppendedDecision
 pub mod Computing
-pub mod Starred
+pub mod RefusalNumbers
+pub mod Unique

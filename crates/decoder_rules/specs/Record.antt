@@ -134,7 +134,7 @@ implied (Id x) = openTag x false 0 0 0
 implied (Global min max) = noTag
 
 -- "the stack becomes those IDs, size Unknown, offsets 0". So D5, an Amount alone (`A2 81 78`), leaves Session and Feed
--- open, which have had no Start, and the end of input hands out their Ends, at 0 (proofs/Starred.antt)
+-- open, which have had no Start, and the end of input hands out their Ends, at 0 (event_list/proofs/Starred.antt)
 unfoldable pub settledTo : TagDecoder → List PathPart → TagDecoder
 settledTo d path = withOpen (withNotes d (d .position) true (d .finished)) (filled noTag (map implied path)) (length path)
 

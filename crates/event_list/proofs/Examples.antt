@@ -11,11 +11,13 @@ use Rattle.decoder_rules.proofs.Computing.{rulesCompute}
 use Rattle.basics.specs.Lists.{every}
 use Rattle.event_list.specs.Line as lines
 use Rattle.numerals.specs.Numeral.{digits, places, hex, hex16, decimal, signedDecimal}
+use Rattle.event_list.specs.Computed.{codes, linesOf}
 use Rattle.event_list.specs.Reading.{started, unread, called, callOnce, unreadMovedToFront, afterRead}
 use Rattle.event_list.specs.Run.{Stage, refilled}
 use Rattle.event_list.specs.declared.types.Next.{Next}
 use Rattle.event_list.specs.declared.types.Next.the-variants.{Line, Last, Read}
 use Rattle.event_list.specs.declared.types.CallResult.{CallResult}
+use Rattle.event_list.proofs.Starred.{d1, d1Lines}
 
 -- ---- a run of the program, computed: at most n steps of it
 
@@ -50,29 +52,16 @@ list size pieces = printed 32 (record { at = started; buffer = replicate size 0;
 
 -- ---- D1
 
--- D1's bytes
-abbrev pub d1 : List ℕ
-d1 = 0x4E ∷ 0x01 ∷ 0x89 ∷ 0xA1 ∷ 0x87 ∷ 0xA2 ∷ 0x81 ∷ 0x78 ∷ 0xA3 ∷ 0x82 ∷ 0x6D ∷ 0x6C ∷ []
-
--- "S 4E01 0", "S A1 3", "U A2 5 120", "T A3 8 10 12", "E A1 3", "E 4E01 0", "Z 12"
-abbrev pub d1Text : List ℕ
-d1Text =
-    83 ∷ 32 ∷ 52 ∷ 69 ∷ 48 ∷ 49 ∷ 32 ∷ 48 ∷ 10
-    ∷ 83 ∷ 32 ∷ 65 ∷ 49 ∷ 32 ∷ 51 ∷ 10
-    ∷ 85 ∷ 32 ∷ 65 ∷ 50 ∷ 32 ∷ 53 ∷ 32 ∷ 49 ∷ 50 ∷ 48 ∷ 10
-    ∷ 84 ∷ 32 ∷ 65 ∷ 51 ∷ 32 ∷ 56 ∷ 32 ∷ 49 ∷ 48 ∷ 32 ∷ 49 ∷ 50 ∷ 10
-    ∷ 69 ∷ 32 ∷ 65 ∷ 49 ∷ 32 ∷ 51 ∷ 10
-    ∷ 69 ∷ 32 ∷ 52 ∷ 69 ∷ 48 ∷ 49 ∷ 32 ∷ 48 ∷ 10
-    ∷ 90 ∷ 32 ∷ 49 ∷ 50 ∷ 10
-    ∷ []
+abbrev d1Text : List ℕ
+d1Text = linesOf d1Lines
 
 -- the first lines of it, up to Amount, and then `M 8`
-abbrev pub tooLarge : List ℕ
-tooLarge = take 27 d1Text ++ (77 ∷ 32 ∷ 56 ∷ 10 ∷ [])
+abbrev tooLarge : List ℕ
+tooLarge = linesOf ("S 4E01 0" ∷ "S A1 3" ∷ "U A2 5 120" ∷ "M 8" ∷ [])
 
--- the first 8 bytes, cut: D3, `X 23 0`
-abbrev pub cutText : List ℕ
-cutText = take 27 d1Text ++ (88 ∷ 32 ∷ 50 ∷ 51 ∷ 32 ∷ 48 ∷ 10 ∷ [])
+-- the first 8 bytes, cut: D3
+abbrev cutText : List ℕ
+cutText = linesOf ("S 4E01 0" ∷ "S A1 3" ∷ "U A2 5 120" ∷ "X 23 0" ∷ [])
 
 -- every byte a piece of its own
 abbrev pub alone : List ℕ → List (List ℕ)
@@ -93,15 +82,15 @@ examples =
     ∷ (list 3 (take 11 d1 ∷ []), tooLarge)
     ∷ (list 16 (take 8 d1 ∷ []), cutText)
     ∷ (list 4 (alone (take 8 d1)), cutText)
-    -- the greatest u64, the least i64 (-9223372036854775808), and 16 hex digits
-    ∷ (decimal (2 ^ 64 - 1), 49 ∷ 56 ∷ 52 ∷ 52 ∷ 54 ∷ 55 ∷ 52 ∷ 52 ∷ 48 ∷ 55 ∷ 51 ∷ 55 ∷ 48 ∷ 57 ∷ 53 ∷ 53 ∷ 49 ∷ 54 ∷ 49 ∷ 53 ∷ [])
-    ∷ (signedDecimal (negsuc (2 ^ 63 - 1)), 45 ∷ 57 ∷ 50 ∷ 50 ∷ 51 ∷ 51 ∷ 55 ∷ 50 ∷ 48 ∷ 51 ∷ 54 ∷ 56 ∷ 53 ∷ 52 ∷ 55 ∷ 55 ∷ 53 ∷ 56 ∷ 48 ∷ 56 ∷ [])
-    ∷ (decimal 0, 48 ∷ [])
-    ∷ (hex 0x4E01, 52 ∷ 69 ∷ 48 ∷ 49 ∷ [])
-    ∷ (hex16 0xABCDEF, 48 ∷ 48 ∷ 48 ∷ 48 ∷ 48 ∷ 48 ∷ 48 ∷ 48 ∷ 48 ∷ 48 ∷ 65 ∷ 66 ∷ 67 ∷ 68 ∷ 69 ∷ 70 ∷ [])
+    -- the greatest u64, the least i64, and 16 hex digits
+    ∷ (decimal (2 ^ 64 - 1), codes "18446744073709551615")
+    ∷ (signedDecimal (negsuc (2 ^ 63 - 1)), codes "-9223372036854775808")
+    ∷ (decimal 0, codes "0")
+    ∷ (hex 0x4E01, codes "4E01")
+    ∷ (hex16 0xABCDEF, codes "0000000000ABCDEF")
     ∷ []
 
 -- every example prints its list
 pub all-examples : map (λ (p : List ℕ × List ℕ). p .0) examples ≡ map (λ (p : List ℕ × List ℕ). p .1) examples
-unfolding rulesCompute digits places lines.elementText lines.rangeText lines.valueText lines.eventText lines.refusalText lines.positionText lines.answerText lines.line unread called callOnce unreadMovedToFront afterRead refilled printed
+unfolding rulesCompute codes linesOf digits places lines.elementText lines.rangeText lines.valueText lines.eventText lines.refusalText lines.positionText lines.answerText lines.line unread called callOnce unreadMovedToFront afterRead refilled printed
 all-examples = refl

@@ -1,6 +1,8 @@
 pub mod PrintsTheList
 pub mod Buffers
+pub mod Computed
 pub mod Ending
+pub mod Starred
 pub mod Examples
 pub mod Filling
 pub mod Putting

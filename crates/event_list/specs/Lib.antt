@@ -1,4 +1,5 @@
 pub mod Line
 pub mod Reading
 pub mod Whole
+pub mod Computed
 pub mod Run

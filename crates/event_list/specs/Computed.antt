@@ -1,0 +1,44 @@
+-- The list of a whole input, computed; and text as the numbers of its characters, so that a list can be written down as
+-- it is printed.
+use Prim.Native.Nat.{ℕ, zero, suc}
+use Prim.Native.Char.{Char, code}
+use Prim.Native.String as string
+use Prim.Native.String.{String}
+use mathlib.Core.Bool.{Bool, true, false}
+use mathlib.Core.List.{List, [], _∷_, _++_}
+use lib.ListN.{drop}
+use Rattle.decoder_rules.specs.Record.{fresh}
+use Rattle.decoder_rules.specs.declared.types.Answer.{Answer}
+use Rattle.decoder_rules.specs.declared.types.Answer.the-variants as answer
+use Rattle.decoder_rules.specs.declared.types.Decoded.{Decoded}
+use Rattle.decoder_rules.specs.declared.types.TagDecoder.{TagDecoder}
+use Rattle.event_list.specs.Line.{line}
+use Rattle.event_list.specs.Whole.{nextAnswer}
+
+-- the numbers of a text's characters
+unfoldable pub codes : String → List ℕ
+codes string.[] = []
+codes (string._∷_ c s) = code c ∷ codes s
+
+-- lines of text, a newline after each
+unfoldable pub linesOf : List String → List ℕ
+linesOf [] = []
+linesOf (s ∷ l) = codes s ++ (10 ∷ linesOf l)
+
+-- a line, and behind an event's the list of what follows it: whether it comes to an end, and its text
+abbrev pub withOthers : Answer → List ℕ → (Unit {0} → Bool × List ℕ) → Bool × List ℕ
+withOthers (answer.Event e) text others = (others tt .0, text ++ others tt .1)
+withOthers answer.NeedMore text others = (true, text)
+withOthers answer.Finished text others = (true, text)
+withOthers (answer.Refused r) text others = (true, text)
+
+-- at most n lines, from the next answer r on, with s still to come
+unfoldable pub listedFrom : ℕ → ℕ → Decoded → List ℕ → Bool × List ℕ
+listedFrom size zero r s = (false, [])
+listedFrom size (suc n) r s =
+    withOthers (r .answer) (line (r .answer) (r .state .position))
+    (λ u. listedFrom size n (nextAnswer size (r .state) (drop (r .taken) s)) (drop (r .taken) s))
+
+-- at most n lines of the list of the input s, with a buffer of so many bytes: whether that is all of it, and its text
+abbrev pub listed : ℕ → ℕ → List ℕ → Bool × List ℕ
+listed size n s = listedFrom size n (nextAnswer size fresh s) s
