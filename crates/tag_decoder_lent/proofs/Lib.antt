@@ -4,5 +4,6 @@ pub mod LentLocal
 pub mod LentLook
 pub mod LentSet
 pub mod LentSteps
+pub mod LentWords
 pub mod RuledOut
 pub mod Unique
