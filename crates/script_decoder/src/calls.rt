@@ -2,17 +2,17 @@
 
 ghost use Prim.Native.Nat.{_≤_};
 ghost use lib.ListN.{length};
-use crate::answers::put_answer;
-use crate::answers::put_search;
 use crate::changes::Change;
 use crate::changes::bad;
 use crate::changes::set_allowance;
 use crate::changes::set_max;
-use crate::record::put_record;
 use crate::setting::set_fields;
 use decoder_rules::types::Decoded;
 use decoder_rules::types::Recovered;
 use decoder_rules::types::TagDecoder;
+use script_answers::answers::put_answer;
+use script_answers::answers::put_search;
+use script_answers::record::put_record;
 use script_text::answers::bad_line;
 use script_text::answers::put_text;
 use script_text::reading::read_hex;

@@ -1,24 +1,24 @@
 // What a call or a field of `set` changes of the record.
 
 use crate::items::Item;
-use crate::items::ListKind;
-use crate::items::PLACES;
 use crate::items::read_item;
 use decoder_move::moves::no_end;
 use decoder_rules::types::Optional;
 use decoder_rules::types::TagDecoder;
 use decoder_rules::types::WaitingEnd;
+use script_answers::record::ListKind;
 use script_text::reading::Number;
 use script_text::reading::read_decimal;
 use script_text::words::item_end;
 use script_text::words::same;
+use spec_util::types::MOST_OPEN;
 use spec_util::types::OpenTag;
 use spec_util::types::no_tag;
 use tag_decoder::settings::allow_errors;
 use tag_decoder::settings::set_max_allowable_tag_size;
 
 // One item more than there are places only says so.
-const MOST_ITEMS: usize = 33;
+const MOST_ITEMS: usize = MOST_OPEN + 1;
 
 // The record after a change, if its text is right.
 pub struct Change {
@@ -109,7 +109,7 @@ fn push_open(tag: OpenTag, d: TagDecoder) -> Change {
     }
     let mut next = d;
     next.open_count = n + 1;
-    if n < PLACES {
+    if n < MOST_OPEN {
         next.open[n] = tag;
     }
     good(next)
@@ -122,7 +122,7 @@ fn push_waiting(end: WaitingEnd, d: TagDecoder) -> Change {
     }
     let mut next = d;
     next.waiting_count = n + 1;
-    if n < PLACES {
+    if n < MOST_OPEN {
         next.waiting[n] = end;
     }
     good(next)
@@ -159,12 +159,12 @@ fn emptied(kind: ListKind, d: TagDecoder) -> TagDecoder {
     match kind {
         ListKind::Open => {
             let tag = no_tag();
-            next.open = [tag; PLACES];
+            next.open = [tag; MOST_OPEN];
             next.open_count = 0;
         }
         ListKind::Waiting => {
             let end = no_end();
-            next.waiting = [end; PLACES];
+            next.waiting = [end; MOST_OPEN];
             next.waiting_count = 0;
         }
     }

@@ -1,6 +1,7 @@
 // The items of the lists that `set` takes: `ID:SIZE:START:DATA` of an open master, `ID:OFFSET` of a waiting End.
 
 use decoder_rules::types::WaitingEnd;
+use script_answers::record::ListKind;
 use script_text::reading::Number;
 use script_text::reading::read_decimal;
 use script_text::reading::read_word;
@@ -8,15 +9,6 @@ use script_text::words::find;
 use script_text::words::same;
 use spec_util::types::OpenTag;
 use spec_util::types::open_tag;
-
-// The places of each list.
-pub const PLACES: usize = 32;
-
-// The two lists of a record: its open masters, and its Ends that wait.
-pub enum ListKind {
-    Open,
-    Waiting,
-}
 
 // An item as it was read.
 pub enum Item {

@@ -1,9 +1,6 @@
 // The calls on a decoder: `new`, `allow`, `max`, `set` and `st` on its record, `decode`, `eof` and `recover` on bytes.
 
-mod answers;
 pub mod calls;
 mod changes;
 mod items;
-mod record;
 mod setting;
-mod words;

@@ -8,8 +8,8 @@ use crate::changes::set_list;
 use crate::changes::set_max;
 use crate::changes::set_position;
 use crate::changes::set_settled;
-use crate::items::ListKind;
 use decoder_rules::types::TagDecoder;
+use script_answers::record::ListKind;
 use script_text::words::word_end;
 
 // How many keys there are.

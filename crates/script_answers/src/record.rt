@@ -2,8 +2,6 @@
 
 ghost use Prim.Native.Nat.{_≤_};
 ghost use lib.ListN.{length};
-use crate::items::ListKind;
-use crate::items::PLACES;
 use crate::words::put_after;
 use crate::words::put_flag;
 use crate::words::put_id;
@@ -12,7 +10,14 @@ use decoder_rules::types::TagDecoder;
 use decoder_rules::types::WaitingEnd;
 use script_text::answers::put;
 use script_text::answers::put_text;
+use spec_util::types::MOST_OPEN;
 use spec_util::types::OpenTag;
+
+// The two lists of a record: its open masters, and its Ends that wait.
+pub enum ListKind {
+    Open,
+    Waiting,
+}
 
 fn bit(is_set: bool, value: u64) -> u64
     requires { ⌜ value ≤ 4 ⌝ }
@@ -95,7 +100,7 @@ fn put_item(kind: ListKind, d: TagDecoder, i: usize, out: &mut [u8], at: usize) 
     if count_of(kind, d) <= i {
         return at;
     }
-    if PLACES <= i {
+    if MOST_OPEN <= i {
         return at;
     }
     match kind {
@@ -116,7 +121,7 @@ fn put_items(kind: ListKind, d: TagDecoder, out: &mut [u8], at: usize) -> usize
 {
     let mut to = at;
     let mut i: usize = 0;
-    while i < PLACES {
+    while i < MOST_OPEN {
         to = put_item(kind, d, i, out, to);
         i += 1;
     }

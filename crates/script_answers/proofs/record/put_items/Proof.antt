@@ -1,17 +1,18 @@
--- `script_decoder::record::put_items` meets its contract. The invariant: the lent bytes keep their number, and the
+-- `script_answers::record::put_items` meets its contract. The invariant: the lent bytes keep their number, and the
 -- place is within them. The measure is how many places are left. Assumes nothing.
 use Prim.Native.Nat.{_-_, _≤_}
 use lib.ListN.{length}
 use mathlib.Core.Path.{_≡_}
 use borrow.Author.Needs.{needs}
-use Rattle.script_decoder.proofs.record.put_items.Statement.{statement}
-use Rattle.script_decoder.proofs.record.put_items.Tie as tie
+use Rattle.spec_util.specs.Walk.{mostOpen}
+use Rattle.script_answers.proofs.record.put_items.Statement.{statement}
+use Rattle.script_answers.proofs.record.put_items.Tie as tie
 
 abbrev Inv-loop : tie.InvT-loop
 Inv-loop kind d out₀ at to₀ i₀ out to i = (length out ≡ length out₀) × (to ≤ length out₀)
 
 abbrev μ-loop : tie.MeasureT-loop
-μ-loop kind d out₀ at to₀ i₀ out to i = 32 - i
+μ-loop kind d out₀ at to₀ i₀ out to i = mostOpen - i
 
 loop-holds : tie.Need-loop-holds Inv-loop μ-loop
 loop-holds c = search needs

@@ -1,0 +1,5 @@
+// A decoder's answers and its record as lines of a script.
+
+pub mod answers;
+pub mod record;
+mod words;
