@@ -1,5 +1,5 @@
-// The open masters against a place in the stream. No end is added up: each sum is compared as a difference, so that
-// none wraps.
+// The open masters against a place in the stream. No end is added up: a sum is compared as a difference, so that none
+// wraps.
 
 ghost use mathlib.Core.Path.{_≡_};
 ghost use Prim.Native.Nat.{_≤_};
@@ -29,14 +29,10 @@ pub fn is_full(position: u64, m: OpenTag) -> bool
 fn is_cut(position: u64, m: OpenTag) -> bool
     ensures { λ r. ⌜ r ≡ isCut position m ⌝ }
 {
-    let start = m.data_start;
     if !m.known {
         return false;
     }
-    if position < start {
-        return true;
-    }
-    position - start < m.size
+    !is_full(position, m)
 }
 
 // The index of the outermost master that the end of the input cuts; the count where there is none.

@@ -28,98 +28,39 @@ abbrev put-digits-below : ℕ → In 1 put-digits-kinds.ps
 put-digits-below t =
     and 1 put-digits-kinds.ps (falls 1 put-digits-kinds.ps _<_ μ-put-digits t) put-digits.Pre
 
-put-digits-returns : (t : ℕ) → put-digits-lts.Need-returns (
-  put-digits-below t,
-  put-digits.Post,
-  glyph-of-reads.Asked,
-  glyph-of-reads.Learnt,
-  put-reads.Asked,
-  put-reads.Learnt,
-) (put-digits-at t) put-digits.Post
+-- what the calls in it ask and ensure
+abbrev put-digits-claims : ℕ → put-digits-lts.Claims
+put-digits-claims t = (put-digits-below t, put-digits.Post, glyph-of-reads.Asked, glyph-of-reads.Learnt, put-reads.Asked, put-reads.Learnt)
+
+put-digits-returns : (t : ℕ) → put-digits-lts.Need-returns (put-digits-claims t) (put-digits-at t) put-digits.Post
 unfolding digits
 put-digits-returns t c = rw (c .if1 .taken) (nothing _ _)
 
-put-digits-div-put-digits : (t : ℕ) → put-digits-lts.Need-div-put-digits (
-  put-digits-below t,
-  put-digits.Post,
-  glyph-of-reads.Asked,
-  glyph-of-reads.Learnt,
-  put-reads.Asked,
-  put-reads.Learnt,
-) (put-digits-at t) put-digits.Post
+put-digits-div-put-digits : (t : ℕ) → put-digits-lts.Need-div-put-digits (put-digits-claims t) (put-digits-at t) put-digits.Post
 put-digits-div-put-digits t c = omega arith
 
-put-digits-sub-put-digits : (t : ℕ) → put-digits-lts.Need-sub-put-digits (
-  put-digits-below t,
-  put-digits.Post,
-  glyph-of-reads.Asked,
-  glyph-of-reads.Learnt,
-  put-reads.Asked,
-  put-reads.Learnt,
-) (put-digits-at t) put-digits.Post
+put-digits-sub-put-digits : (t : ℕ) → put-digits-lts.Need-sub-put-digits (put-digits-claims t) (put-digits-at t) put-digits.Post
 put-digits-sub-put-digits t c = omega arith
 
-put-digits-put-digits-requires : (t : ℕ) → put-digits-lts.Need-put-digits-requires (
-  put-digits-below t,
-  put-digits.Post,
-  glyph-of-reads.Asked,
-  glyph-of-reads.Learnt,
-  put-reads.Asked,
-  put-reads.Learnt,
-) (put-digits-at t) put-digits.Post
+put-digits-put-digits-requires : (t : ℕ) → put-digits-lts.Need-put-digits-requires (put-digits-claims t) (put-digits-at t) put-digits.Post
 put-digits-put-digits-requires t c κs = omega arith
 
-put-digits-rem-glyph-of : (t : ℕ) → put-digits-lts.Need-rem-glyph-of (
-  put-digits-below t,
-  put-digits.Post,
-  glyph-of-reads.Asked,
-  glyph-of-reads.Learnt,
-  put-reads.Asked,
-  put-reads.Learnt,
-) (put-digits-at t) put-digits.Post
+put-digits-rem-glyph-of : (t : ℕ) → put-digits-lts.Need-rem-glyph-of (put-digits-claims t) (put-digits-at t) put-digits.Post
 put-digits-rem-glyph-of t c = omega arith
 
-put-digits-glyph-of-requires : (t : ℕ) → put-digits-lts.Need-glyph-of-requires (
-  put-digits-below t,
-  put-digits.Post,
-  glyph-of-reads.Asked,
-  glyph-of-reads.Learnt,
-  put-reads.Asked,
-  put-reads.Learnt,
-) (put-digits-at t) put-digits.Post
+put-digits-glyph-of-requires : (t : ℕ) → put-digits-lts.Need-glyph-of-requires (put-digits-claims t) (put-digits-at t) put-digits.Post
 put-digits-glyph-of-requires t c κs =
     let s = c .before .before .before .before .before .before in
     let h : 0 < s .args .base = omega arith in
     omega (arith, mod-lt (s .args .n) h)
 
-put-digits-put-requires : (t : ℕ) → put-digits-lts.Need-put-requires (
-  put-digits-below t,
-  put-digits.Post,
-  glyph-of-reads.Asked,
-  glyph-of-reads.Learnt,
-  put-reads.Asked,
-  put-reads.Learnt,
-) (put-digits-at t) put-digits.Post
+put-digits-put-requires : (t : ℕ) → put-digits-lts.Need-put-requires (put-digits-claims t) (put-digits-at t) put-digits.Post
 put-digits-put-requires t c κs = omega arith
 
-put-digits-same-length : (t : ℕ) → put-digits-lts.Need-same-length (
-  put-digits-below t,
-  put-digits.Post,
-  glyph-of-reads.Asked,
-  glyph-of-reads.Learnt,
-  put-reads.Asked,
-  put-reads.Learnt,
-) (put-digits-at t) put-digits.Post
+put-digits-same-length : (t : ℕ) → put-digits-lts.Need-same-length (put-digits-claims t) (put-digits-at t) put-digits.Post
 put-digits-same-length t c = omega arith
 
-put-digits-returns-2 : (t : ℕ) → put-digits-lts.Need-returns-2 (
-  put-digits-below t,
-  put-digits.Post,
-  glyph-of-reads.Asked,
-  glyph-of-reads.Learnt,
-  put-reads.Asked,
-  put-reads.Learnt,
-) (put-digits-at t) put-digits.Post
+put-digits-returns-2 : (t : ℕ) → put-digits-lts.Need-returns-2 (put-digits-claims t) (put-digits-at t) put-digits.Post
 put-digits-returns-2 t c =
     let g = c .before .before .before .before in
     let d = g .before .before .before in
@@ -128,14 +69,9 @@ put-digits-returns-2 t c =
     digit-more (a .base) (a .k) (a .n) (e .if1 .left) (d .put-digits .ensures) (g .glyph-of .ensures) (c .before .before .put .ensures)
 
 pub +put-digits-spec : {M : Type 1} → statement M
-+put-digits-spec = close μ-put-digits λ t. put-digits-lts.spec (
-  put-digits-below t,
-  put-digits.Post,
-  glyph-of-reads.Asked,
-  glyph-of-reads.Learnt,
-  put-reads.Asked,
-  put-reads.Learnt,
-)
++put-digits-spec = close μ-put-digits λ t.
+    put-digits-lts.spec
+    (put-digits-claims t)
     (put-digits-at t)
     put-digits.Post
     (put-digits-returns t)
