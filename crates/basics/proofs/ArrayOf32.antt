@@ -8,7 +8,7 @@ use native.Mathlib.Numerals.{add-one}
 use native.Mathlib.Omega.{arith}
 use lib.ListN.{length, getD, take, drop, set, replicate, length-append, length-take, length-drop, length-map, length-reverse, length-replicate, getD-replicate, replicate-append-replicate, drop-of-length-le, List·getD-append, List·getD-eq-default}
 use lib.Seq.{length-take-le, take-all, take-suc, drop-cons, take-at, drop-at, set-at, take-append-le, getD-at, getD-append-add, getD-take, getD-drop, drop-append-le}
-use Rattle.basics.specs.Lists.{filled}
+use Rattle.basics.specs.Lists.{arrayPlaces, filled}
 
 -- what the type says of an array of structs, for its list
 pub length-of-map : (X Y : Type 0) (f : X → Y) (l : List X) (n : ℕ) → length (map f l) ≡ n → length l ≡ n
@@ -17,10 +17,10 @@ length-of-map X Y f l n h = sym (length-map l f) ∙ h
 module _ {A : Type 0} (none : A) where
   -- ---- a list at the front, the other places empty
 
-  pub filled-length : (l : List A) → length l ≤ 32 → length (filled none l) ≡ 32
+  pub filled-length : (l : List A) → length l ≤ arrayPlaces → length (filled none l) ≡ arrayPlaces
   filled-length l h = simp (length-append, length-replicate) (omega arith)
 
-  pub filled-whole : (l : List A) → length l ≡ 32 → filled none l ≡ l
+  pub filled-whole : (l : List A) → length l ≡ arrayPlaces → filled none l ≡ l
   filled-whole l h = rw h (append-nil l)
 
   pub filled-take : (l : List A) (n : ℕ) → n ≤ length l → take n (filled none l) ≡ take n l
@@ -29,60 +29,60 @@ module _ {A : Type 0} (none : A) where
   pub filled-front : (l : List A) (n : ℕ) → length l ≡ n → take n (filled none l) ≡ l
   filled-front l n h = take-at l _ n h
 
-  pub filled-back : (l : List A) (n : ℕ) → length l ≡ n → drop n (filled none l) ≡ replicate (32 - n) none
-  filled-back l n h = rw (drop-at l (replicate (32 - length l) none) n h, h)
+  pub filled-back : (l : List A) (n : ℕ) → length l ≡ n → drop n (filled none l) ≡ replicate (arrayPlaces - n) none
+  filled-back l n h = rw (drop-at l (replicate (arrayPlaces - length l) none) n h, h)
 
   pub filled-at : (l : List A) (i : ℕ) (z : A) → i < length l → getD (filled none l) i z ≡ getD l i z
   filled-at l i z h = List·getD-append l _ z i h
 
   pub filled-at-empty : (l : List A) (i : ℕ) → length l ≤ i → getD (filled none l) i none ≡ none
-  filled-at-empty l i h = go (decLt (i - length l) (32 - length l))
+  filled-at-empty l i h = go (decLt (i - length l) (arrayPlaces - length l))
     where
       e : i ≡ length l + (i - length l)
       e = omega arith
 
-      go : Dec (i - length l < 32 - length l) → getD (filled none l) i none ≡ none
-      go (yes k) = ap (λ (j : ℕ). getD (filled none l) j none) e ∙ getD-append-add l _ (i - length l) none ∙ getD-replicate (32 - length l) (i - length l) none none k
+      go : Dec (i - length l < arrayPlaces - length l) → getD (filled none l) i none ≡ none
+      go (yes k) = ap (λ (j : ℕ). getD (filled none l) j none) e ∙ getD-append-add l _ (i - length l) none ∙ getD-replicate (arrayPlaces - length l) (i - length l) none none k
       go (no f) =
           ap (λ (j : ℕ). getD (filled none l) j none) e ∙ getD-append-add l _ (i - length l) none
-          ∙ List·getD-eq-default (replicate (32 - length l) none) none {n = i - length l} (rw length-replicate (omega arith))
+          ∙ List·getD-eq-default (replicate (arrayPlaces - length l) none) none {n = i - length l} (rw length-replicate (omega arith))
 
   -- one list for each count
   pub filled-one : (l m : List A) → length l ≡ length m → filled none l ≡ filled none m → l ≡ m
   filled-one l m n e = sym (filled-front l (length m) n) ∙ ap (take (length m)) e ∙ filled-front m (length m) refl
 
   -- one more at the front
-  pub filled-more : (l : List A) (n : ℕ) (x : A) → length l ≡ n → n < 32 → set (filled none l) n x ≡ filled none (l ++ (x ∷ []))
+  pub filled-more : (l : List A) (n : ℕ) (x : A) → length l ≡ n → n < arrayPlaces → set (filled none l) n x ≡ filled none (l ++ (x ∷ []))
   filled-more l n x e h =
-      let r : 32 - length l ≡ suc (32 - (length l + 1)) = omega arith in
+      let r : arrayPlaces - length l ≡ suc (arrayPlaces - (length l + 1)) = omega arith in
       let s : length (l ++ (x ∷ [])) ≡ length l + 1 = length-append l (x ∷ []) in
-      rw (s, r, set-at l none (replicate (32 - (length l + 1)) none) x n e) (sym (append-assoc l (x ∷ []) (replicate (32 - (length l + 1)) none)))
+      rw (s, r, set-at l none (replicate (arrayPlaces - (length l + 1)) none) x n e) (sym (append-assoc l (x ∷ []) (replicate (arrayPlaces - (length l + 1)) none)))
 
   -- one less at the front
-  pub filled-less : (l : List A) (n : ℕ) (x : A) → length l ≡ n → n < 32 → set (filled none (l ++ (x ∷ []))) n none ≡ filled none l
+  pub filled-less : (l : List A) (n : ℕ) (x : A) → length l ≡ n → n < arrayPlaces → set (filled none (l ++ (x ∷ []))) n none ≡ filled none l
   filled-less l n x e h =
-      let r : 32 - length l ≡ suc (32 - (length l + 1)) = omega arith in
+      let r : arrayPlaces - length l ≡ suc (arrayPlaces - (length l + 1)) = omega arith in
       let s : length (l ++ (x ∷ [])) ≡ length l + 1 = length-append l (x ∷ []) in
-      rw (s, r, append-assoc l (x ∷ []) (replicate (32 - (length l + 1)) none), set-at l x (replicate (32 - (length l + 1)) none) none n e)
+      rw (s, r, append-assoc l (x ∷ []) (replicate (arrayPlaces - (length l + 1)) none), set-at l x (replicate (arrayPlaces - (length l + 1)) none) none n e)
 
   -- the first gone, the others moved down
-  pub filled-shift : (l : List A) → length l ≤ 32 → drop 1 (filled none l) ++ (none ∷ []) ≡ filled none (drop 1 l)
+  pub filled-shift : (l : List A) → length l ≤ arrayPlaces → drop 1 (filled none l) ++ (none ∷ []) ≡ filled none (drop 1 l)
   filled-shift [] h = refl
   filled-shift (x ∷ l) h =
-      let e : 32 - suc (length l) + 1 ≡ 32 - length l = omega arith in
-      append-assoc l (replicate (32 - suc (length l)) none) (none ∷ []) ∙ rw (replicate-append-replicate (32 - suc (length l)) 1 none, e)
+      let e : arrayPlaces - suc (length l) + 1 ≡ arrayPlaces - length l = omega arith in
+      append-assoc l (replicate (arrayPlaces - suc (length l)) none) (none ∷ []) ∙ rw (replicate-append-replicate (arrayPlaces - suc (length l)) 1 none, e)
 
   -- ---- loops that fill places from the front
 
   -- with the first elements of a list in turn
-  pub filled-next : {B : Type 0} (f : B → A) (l : List B) (i : ℕ) (z : B) → i < length l → length l ≤ 32
+  pub filled-next : {B : Type 0} (f : B → A) (l : List B) (i : ℕ) (z : B) → i < length l → length l ≤ arrayPlaces
       → set (filled none (map f (take i l))) i (f (getD l i z)) ≡ filled none (map f (take (i + 1) l))
   filled-next f l i z h k =
       let n : length (map f (take i l)) ≡ i = simp (length-map, length-take) (omega arith) in
       rw (filled-more (map f (take i l)) i (f (getD l i z)) n (omega arith), add-one, take-suc l i z h, map-append f (take i l) (getD l i z ∷ []))
 
   -- with the first n elements of a list, the last of them first; i is the place before, j this one
-  pub filled-reversed : {B : Type 0} (f : B → A) (l : List B) (n i j : ℕ) (z : B) → i ≡ j + 1 → j < n → n ≤ length l → n ≤ 32
+  pub filled-reversed : {B : Type 0} (f : B → A) (l : List B) (n i j : ℕ) (z : B) → i ≡ j + 1 → j < n → n ≤ length l → n ≤ arrayPlaces
       → set (filled none (map f (reverse (drop i (take n l))))) (n - j - 1) (f (getD l j z)) ≡ filled none (map f (reverse (drop j (take n l))))
   filled-reversed {B} f l n i j z e h k m =
       let t = take n l in
@@ -94,7 +94,7 @@ module _ {A : Type 0} (none : A) where
       rw (e, add-one, filled-more (map f r) (n - j - 1) (f x) s (omega arith), c, reverse-cons x (drop (suc j) t), map-append f r (x ∷ []))
 
   -- the places of a list from the last one on made empty
-  pub filled-shorter : (l : List A) (i j : ℕ) → i ≡ j + 1 → j < length l → length l ≤ 32 → set (filled none (take i l)) j none ≡ filled none (take j l)
+  pub filled-shorter : (l : List A) (i j : ℕ) → i ≡ j + 1 → j < length l → length l ≤ arrayPlaces → set (filled none (take i l)) j none ≡ filled none (take j l)
   filled-shorter l i j e h k = rw (e, add-one, take-suc l j none h) (filled-less (take j l) j (getD l j none) (length-take-le j l (omega arith)) (omega arith))
 
 -- ---- the first n of a list

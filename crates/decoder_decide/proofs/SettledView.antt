@@ -10,7 +10,7 @@ use lib.ListN.{length, getD, set, length-map}
 use lib.Seq.{getD-set-same, getD-set-other}
 use Rattle.table.specs.declared.types.PathPart.{PathPart}
 use Rattle.table.specs.declared.types.PathPart.the-variants.{Id, Global}
-use Rattle.spec_util.specs.Walk.{noTag, Shown}
+use Rattle.spec_util.specs.Walk.{mostOpen, noTag, Shown}
 use Rattle.spec_util.specs.declared.types.OpenTag.{OpenTag}
 use Rattle.decoder_rules.specs.Record.{opens, implied, withOpen, withNotes, settledTo}
 use Rattle.decoder_rules.specs.declared.types.TagDecoder.{TagDecoder}
@@ -27,10 +27,10 @@ sound-summary d e = rw e (λ g. let s = good-state d g in record { few-open = s 
 
 -- in a good state, all open masters are shown
 pub all-shown : {ids : List ℕ} {knowns : List Bool} {k : Summary} (d : TagDecoder) → k ≡ summary d → GoodView (k .view)
-    → Shown ids knowns (min (d .«open_count») 32) (opens d) → Shown ids knowns (k .view .count) (opens d)
+    → Shown ids knowns (min (d .«open_count») mostOpen) (opens d) → Shown ids knowns (k .view .count) (opens d)
 all-shown {k} d e g shown =
     let n : k .view .count ≡ d .«open_count» = ap (λ (x : Summary). x .view .count) e in
-    let m : min (d .«open_count») 32 ≡ k .view .count = omega (arith, g .few-open) in
+    let m : min (d .«open_count») mostOpen ≡ k .view .count = omega (arith, g .few-open) in
     rw m at shown
 
 -- ---- a record that has settled to a path

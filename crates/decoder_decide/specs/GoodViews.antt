@@ -1,6 +1,6 @@
 -- What helpers' contracts use: what the tests have shown where a header is judged, so that no sum wraps and no place is
 -- missed.
-use Prim.Native.Nat.{ℕ, _-_, _^_, _≤_, _<_}
+use Prim.Native.Nat.{ℕ, _≤_, _<_}
 use mathlib.Core.Bool.{Bool, true, _||_}
 use mathlib.Core.List.{List}
 use mathlib.Core.Path.{_≡_}
@@ -12,7 +12,7 @@ use Rattle.tag_parse.specs.declared.types.TagHeader.{TagHeader}
 use Rattle.spec_util.specs.Walk.{mostOpen}
 use Rattle.decoder_rules.specs.Record.{farthest, sizeLimit}
 use Rattle.decoder_rules.specs.declared.types.TagDecoder.{TagDecoder}
-use Rattle.decoder_look.specs.Summary.{headerView}
+use Rattle.decoder_look.specs.Summary.{unbounded, headerView}
 use Rattle.decoder_decide.specs.Bounds.{longestHeader}
 use Rattle.decoder_decide.specs.Parts.{knownSize}
 use Rattle.decoder_look.specs.declared.summary.Summary.{Summary}
@@ -40,7 +40,7 @@ settledView s n = record {
   position = s .position;
   settled = true;
   count = n;
-  «least_end» = 2 ^ 64 - 1;
+  «least_end» = unbounded;
 }
 
 -- a promise that is made of every record that is seen so, whatever its masters

@@ -18,6 +18,7 @@ use crate::header::settling_note;
 use crate::header::valid_header;
 use decoder_look::summary::HeaderView;
 use decoder_look::summary::Summary;
+use decoder_look::summary::UNBOUNDED;
 use decoder_rules::errors::parse_error;
 use decoder_rules::types::Action;
 use decoder_rules::types::Check;
@@ -100,7 +101,7 @@ fn settled_view(view: HeaderView, count: usize) -> HeaderView
         position: view.position,
         settled: true,
         count,
-        least_end: 0xffff_ffff_ffff_ffff,
+        least_end: UNBOUNDED,
     }
 }
 

@@ -13,13 +13,17 @@ use Rattle.decoder_rules.specs.declared.types.TagDecoder.{TagDecoder}
 use Rattle.decoder_look.specs.declared.summary.Summary.{Summary}
 use Rattle.decoder_look.specs.declared.summary.HeaderView.{HeaderView}
 
--- where a master ends: 2^64 - 1 where its size is not known, and for an end beyond
+-- what is shown as an end where none bounds, 2^64 - 1
+abbrev pub unbounded : ℕ
+unbounded = 2 ^ 64 - 1
+
+-- where a master ends: unbounded where its size is not known, and for an end beyond
 unfoldable pub shownEnd : OpenTag → ℕ
-shownEnd m = cond (m .known) (min (endOf m) (2 ^ 64 - 1)) (2 ^ 64 - 1)
+shownEnd m = cond (m .known) (min (endOf m) unbounded) unbounded
 
 -- the least of the masters' ends
 unfoldable pub leastEnd : List OpenTag → ℕ
-leastEnd [] = 2 ^ 64 - 1
+leastEnd [] = unbounded
 leastEnd (m ∷ l) = min (shownEnd m) (leastEnd l)
 
 -- what steps 6 to 11 ask of the record

@@ -19,6 +19,9 @@ use spec_util::types::MOST_OPEN;
 use spec_util::types::OpenTag;
 use spec_util::walk::at_most_32;
 
+// What is shown as an end where none bounds.
+pub const UNBOUNDED: u64 = 0xffff_ffff_ffff_ffff;
+
 // What steps 6 to 11 ask: settings, place, how many masters are open and the least of their ends.
 pub struct HeaderView {
     pub settings: Settings,
@@ -96,10 +99,10 @@ fn shown_end(m: OpenTag) -> u64
 {
     let start = m.data_start;
     if !m.known {
-        return 0xffff_ffff_ffff_ffff;
+        return UNBOUNDED;
     }
-    if 0xffff_ffff_ffff_ffff - start < m.size {
-        return 0xffff_ffff_ffff_ffff;
+    if UNBOUNDED - start < m.size {
+        return UNBOUNDED;
     }
     start + m.size
 }
@@ -124,7 +127,7 @@ pub fn summarize(d: TagDecoder, ids: &mut [u64], knowns: &mut [bool]) -> Summary
     let position = d.position;
     let mut sound = true;
     let mut first_full = at_most_32(d.open_count);
-    let mut least_end: u64 = 0xffff_ffff_ffff_ffff;
+    let mut least_end: u64 = UNBOUNDED;
     let mut i = first_full;
     while 0 < i {
         i -= 1;

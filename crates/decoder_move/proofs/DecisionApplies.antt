@@ -1,6 +1,6 @@
 -- A decision fits the record that it is applied to: what closes is open, what starts has room, and no more bytes are
 -- taken than were lent. Assumes nothing.
-use Prim.Native.Nat.{ℕ, _+_, _^_, _≤_, _<_}
+use Prim.Native.Nat.{ℕ, _+_, _≤_, _<_}
 use mathlib.Core.Path.{_≡_, refl, sym, ap, _∙_}
 use mathlib.Core.Bool.{true, false≢true}
 use mathlib.Core.List.{List, map}
@@ -13,7 +13,7 @@ use Rattle.tag_parse.proofs.Headers.{header-sound}
 use Rattle.tag_parse.specs.declared.types.EBMLSize.{EBMLSize}
 use Rattle.tag_parse.specs.declared.types.TagHeader.{TagHeader}
 use Rattle.tag_parse.specs.declared.types.TagValue.{TagValue}
-use Rattle.decoder_rules.specs.Record.{implied, withOpen, withNotes, settledTo}
+use Rattle.decoder_rules.specs.Record.{farthest, implied, withOpen, withNotes, settledTo}
 use Rattle.decoder_rules.specs.OneCall.{step3, settles, step7, noted, step10}
 use Rattle.decoder_rules.specs.Deciding.{plain, decide}
 use Rattle.decoder_rules.specs.Moving.{move, apply, decode}
@@ -32,7 +32,7 @@ use Rattle.decoder_rules.specs.declared.types.Note.the-variants.{NoNote, Settle
 use Rattle.decoder_rules.specs.declared.types.TagDecoder.{TagDecoder}
 use Rattle.basics.proofs.ArrayOf32.{filled-length}
 use Rattle.basics.proofs.Bools.{pick}
-use Rattle.spec_util.specs.Walk.{noTag}
+use Rattle.spec_util.specs.Walk.{mostOpen, noTag}
 use Rattle.decoder_rules.proofs.HeaderPath.{path-few}
 use Rattle.decoder_rules.proofs.Exits as exit
 use Rattle.decoder_rules.proofs.Exits.{Closing, HeaderExit, Admitted, AtHeader, Exit, exits}
@@ -42,8 +42,8 @@ use Rattle.decoder_move.specs.Applies.{NoteApplies, ActionApplies, Decis
 
 -- the record is good, and n more bytes are within reach
 pub record Near (d : TagDecoder) (n : ℕ) : Type 0 where
-  pub few : d .«open_count» ≤ 32
-  pub near : d .position + n ≤ 2 ^ 62
+  pub few : d .«open_count» ≤ mostOpen
+  pub near : d .position + n ≤ farthest
 
 -- ---- what each action asks
 
@@ -68,17 +68,17 @@ unfolding ActionApplies
 fits-hand-out d n h = h
 
 -- what closes is open
-pub fits-close : (d : TagDecoder) (n k : ℕ) → k < d .«open_count» → d .«open_count» ≤ 32 → ActionApplies d n (act.Close k)
+pub fits-close : (d : TagDecoder) (n k : ℕ) → k < d .«open_count» → d .«open_count» ≤ mostOpen → ActionApplies d n (act.Close k)
 unfolding ActionApplies
 fits-close d n k h f = (h, f)
 
 -- a Start has room, and its header was lent
-pub fits-start : (d : TagDecoder) (n x : ℕ) (z : EBMLSize) (len : ℕ) → d .«open_count» < 32 → len ≤ n → d .position + n ≤ 2 ^ 62 → ActionApplies d n (act.Start x z len)
+pub fits-start : (d : TagDecoder) (n x : ℕ) (z : EBMLSize) (len : ℕ) → d .«open_count» < mostOpen → len ≤ n → d .position + n ≤ farthest → ActionApplies d n (act.Start x z len)
 unfolding ActionApplies
 fits-start d n x z len f l p = (f, l, p)
 
 -- the bytes of a Data were lent
-pub fits-data : (d : TagDecoder) (n x : ℕ) (v : TagValue) (m : ℕ) → m ≤ n → d .position + n ≤ 2 ^ 62 → ActionApplies d n (act.Data x v m)
+pub fits-data : (d : TagDecoder) (n x : ℕ) (v : TagValue) (m : ℕ) → m ≤ n → d .position + n ≤ farthest → ActionApplies d n (act.Data x v m)
 unfolding ActionApplies
 fits-data d n x v m l p = (l, p)
 
@@ -116,12 +116,12 @@ unfolding NoteApplies
 note-none ps = tt
 
 -- a path that fits the record
-pub note-settle : (ps : List ℕ) (path : Path) → length (partsIn (partsOf ps) path) ≤ 32 → NoteApplies ps (Settle path)
+pub note-settle : (ps : List ℕ) (path : Path) → length (partsIn (partsOf ps) path) ≤ mostOpen → NoteApplies ps (Settle path)
 unfolding NoteApplies
 note-settle ps path h = h
 
 -- the array of a record with a note that applies has its places
-pub noted-long : (ps : List ℕ) (d : TagDecoder) (n : Note) → NoteApplies ps n → length (d .«open») ≡ 32 → length (noted ps d n .«open») ≡ 32
+pub noted-long : (ps : List ℕ) (d : TagDecoder) (n : Note) → NoteApplies ps n → length (d .«open») ≡ mostOpen → length (noted ps d n .«open») ≡ mostOpen
 unfolding NoteApplies noted settledTo withOpen
 noted-long ps d NoNote f h = h
 noted-long ps d (Settle path) f h = filled-length noTag (map implied (partsIn (partsOf ps) path)) (rw length-map f)
@@ -180,22 +180,22 @@ unfolding ActionApplies
 hands-out d n f = f
 
 -- what closes is open, and at most 32 are
-pub closes : (d : TagDecoder) (n k : ℕ) → ActionApplies d n (act.Close k) → (k < d .«open_count») × (d .«open_count» ≤ 32)
+pub closes : (d : TagDecoder) (n k : ℕ) → ActionApplies d n (act.Close k) → (k < d .«open_count») × (d .«open_count» ≤ mostOpen)
 unfolding ActionApplies
 closes d n k f = f
 
 -- there is room, and the header is within reach
-pub starts : (d : TagDecoder) (n x : ℕ) (z : EBMLSize) (len : ℕ) → ActionApplies d n (act.Start x z len) → (d .«open_count» < 32) × (d .position + len ≤ 2 ^ 62)
+pub starts : (d : TagDecoder) (n x : ℕ) (z : EBMLSize) (len : ℕ) → ActionApplies d n (act.Start x z len) → (d .«open_count» < mostOpen) × (d .position + len ≤ farthest)
 unfolding ActionApplies
 starts d n x z len f = (f .0, omega (arith, f .1, f .2))
 
 -- the bytes are within reach
-pub passes-on : (d : TagDecoder) (n x : ℕ) (v : TagValue) (m : ℕ) → ActionApplies d n (act.Data x v m) → d .position + m ≤ 2 ^ 62
+pub passes-on : (d : TagDecoder) (n x : ℕ) (v : TagValue) (m : ℕ) → ActionApplies d n (act.Data x v m) → d .position + m ≤ farthest
 unfolding ActionApplies
 passes-on d n x v m f = omega (arith, f .0, f .1)
 
 -- the path fits the record
-pub note-settles : (ps : List ℕ) (path : Path) → NoteApplies ps (Settle path) → length (partsIn (partsOf ps) path) ≤ 32
+pub note-settles : (ps : List ℕ) (path : Path) → NoteApplies ps (Settle path) → length (partsIn (partsOf ps) path) ≤ mostOpen
 unfolding NoteApplies
 note-settles ps path f = f
 

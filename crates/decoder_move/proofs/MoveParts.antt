@@ -3,7 +3,7 @@ use Prim.Native.Nat.{ℕ, _-_, _≤_}
 use mathlib.Core.Path.{_≡_, refl}
 use native.Mathlib.Omega.{arith}
 use lib.ListN.{length, getD}
-use Rattle.spec_util.specs.Walk.{noTag}
+use Rattle.spec_util.specs.Walk.{mostOpen, noTag}
 use Rattle.decoder_rules.specs.Record.{noEnd}
 use Rattle.decoder_rules.specs.Moving.{gives, move}
 use Rattle.decoder_rules.specs.declared.types.Action.{Action}
@@ -14,7 +14,7 @@ use Rattle.decoder_move.specs.Applies.{ActionApplies}
 use Rattle.decoder_move.specs.Answers.{answerTo, takenBy}
 
 -- i is the place of the top master where at most 32 are open
-pub moved-parts : (d : TagDecoder) (n i : ℕ) (a : Action) → length (d .«open») ≡ 32 → ActionApplies d n a → (d .«open_count» ≤ 32 → i ≡ d .«open_count» - 1)
+pub moved-parts : (d : TagDecoder) (n i : ℕ) (a : Action) → length (d .«open») ≡ mostOpen → ActionApplies d n a → (d .«open_count» ≤ mostOpen → i ≡ d .«open_count» - 1)
     → gives (answerTo a (d .position) (getD (d .waiting) 0 noEnd) (getD (d .«open») i noTag)) (takenBy a) (move d a .state) ≡ move d a
 unfolding ActionApplies answerTo takenBy move
 moved-parts d n i (act.Refuse e) w f top = refl

@@ -8,6 +8,7 @@ ghost use Rattle.decoder_rules.specs.declared.types.Action.the-variants.{Close}
 ghost use Rattle.decoder_move.specs.Applies.{NoteApplies};
 ghost use Rattle.decoder_move.specs.Answers.{answerTo, takenBy};
 ghost use Rattle.spec_util.specs.Walk.{mostOpen};
+use crate::moves::LAST_PLACE;
 use crate::moves::closed_to;
 use crate::moves::end_for;
 use crate::moves::settled_to;
@@ -52,15 +53,15 @@ pub fn close(d: TagDecoder, k: usize) -> Decoded
     taking_none(Answer::Event(event), closed_to(d, k))
 }
 
-// The index of the last of so many; 0 for none, 31 for more than 32.
+// The index of the last of so many; 0 for none, that of the last place for more than there are places.
 pub fn top_place(count: usize) -> usize
-    ensures { λ r. ⌜ r ≡ min (count - 1) 31 ⌝ }
+    ensures { λ r. ⌜ r ≡ min (count - 1) (mostOpen - 1) ⌝ }
 {
     if count == 0 {
         return 0;
     }
     if MOST_OPEN < count {
-        return 31;
+        return LAST_PLACE;
     }
     count - 1
 }

@@ -24,6 +24,9 @@ use table::types::Path;
 use table::types::PathPart;
 use tag_parse::types::EBMLSize;
 
+// The last place of each of the record's two arrays.
+pub const LAST_PLACE: usize = MOST_OPEN - 1;
+
 // What an empty place of the waiting Ends holds.
 pub fn no_end() -> WaitingEnd
     ensures { λ r. ⌜ r ≡ noEnd ⌝ }
@@ -116,12 +119,12 @@ pub fn handed_out(mut d: TagDecoder) -> TagDecoder
     ensures { λ r. ⌜ r ≡ handedOut d ⌝ }
 {
     let mut i: usize = 0;
-    while i < 31 {
+    while i < LAST_PLACE {
         let next = d.waiting[i + 1];
         d.waiting[i] = next;
         i += 1;
     }
-    d.waiting[31] = no_end();
+    d.waiting[LAST_PLACE] = no_end();
     d.waiting_count -= 1;
     d
 }

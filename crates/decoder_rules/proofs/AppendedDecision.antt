@@ -1,5 +1,5 @@
 -- What is decided stays when bytes are appended, unless more were needed. Assumes nothing.
-use Prim.Native.Nat.{ℕ, _+_, _^_, _≤_, _<_}
+use Prim.Native.Nat.{ℕ, _+_, _≤_, _<_}
 use mathlib.Core.Path.{_≡_, refl, _∙_}
 use mathlib.Core.Bool.{false, true≢false}
 use mathlib.Core.List.{List, _++_}
@@ -7,6 +7,7 @@ use native.Mathlib.Omega.{arith}
 use borrow.Author.Tests.{le-leb}
 use lib.ListN.{length, getD, drop, length-append, length-drop}
 use lib.Seq.{take-append-le, drop-append-le}
+use Rattle.decoder_rules.specs.Record.{farthest}
 use Rattle.table.specs.Table.{Entry, tableOf}
 use Rattle.tag_parse.specs.Header.{readHeader, headerNeedsMore}
 use Rattle.tag_parse.specs.declared.types.ReadHeader.{ReadHeader}
@@ -43,8 +44,8 @@ module _ (t : List Entry) (d : TagDecoder) (h : TagHeader) (s u : List ℕ) wher
   header-longer (payload-refused n x has l e) m = payload-refused n x has (longer l) (payload-longer n l ∙ e)
   header-longer (holds n v has l e) m = holds n v has (longer l) (payload-longer n l ∙ e)
 
-module _ (es ps : List ℕ) (d : TagDecoder) (s u : List ℕ) (byte : getD s 0 0 < 256) (open-still : d .finished ≡ false) (near : d .position + length (s ++ u) ≤ 2 ^ 62) where
-  near-part : d .position + length s ≤ 2 ^ 62
+module _ (es ps : List ℕ) (d : TagDecoder) (s u : List ℕ) (byte : getD s 0 0 < 256) (open-still : d .finished ≡ false) (near : d .position + length (s ++ u) ≤ farthest) where
+  near-part : d .position + length s ≤ farthest
   near-part = let n = near in omega (arith, length-append s u)
 
   -- 10, 11 and 12 go by the number of bytes only

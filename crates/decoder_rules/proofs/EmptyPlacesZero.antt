@@ -7,7 +7,7 @@ use mathlib.Core.List.{List, [], _∷_, _++_, map}
 use native.Mathlib.Omega.{arith}
 use lib.ListN.{length, drop, set, replicate, length-map, length-take}
 use Rattle.table.specs.declared.types.PathPart.{PathPart}
-use Rattle.spec_util.specs.Walk.{noTag}
+use Rattle.spec_util.specs.Walk.{mostOpen, noTag}
 use Rattle.spec_util.specs.declared.types.OpenTag.{OpenTag}
 use Rattle.decoder_rules.specs.Record.{opens, noEnd, fresh, withOpen, withWaiting, withNotes, settledTo, opened, endsFrom, closedTo, handedOut, sizeGrown, withSizesGrown, waits}
 use Rattle.basics.specs.Lists.{filled}
@@ -26,7 +26,7 @@ pub fresh-clean : Clean fresh
 fresh-clean = record { masters = refl; ends = refl }
 
 -- a clean record whose counts are at most 32 has its places
-pub clean-arrays : (d : TagDecoder) → Clean d → d .«open_count» ≤ 32 → d .«waiting_count» ≤ 32 → Arrays d
+pub clean-arrays : (d : TagDecoder) → Clean d → d .«open_count» ≤ mostOpen → d .«waiting_count» ≤ mostOpen → Arrays d
 clean-arrays d c m w =
     record {
       masters = ap length (c .masters) ∙ filled-length noTag (opens d) (simp length-take (omega arith));
@@ -45,7 +45,7 @@ module _ (d : TagDecoder) (a : Arrays d) (c : Clean d) where
   settled-clean path = record { masters = ap (filled noTag) (sym (settled-opens d path)); ends = c .ends }
 
   -- with a master more
-  pub opened-clean : (m : OpenTag) → d .«open_count» < 32 → Clean (opened d m)
+  pub opened-clean : (m : OpenTag) → d .«open_count» < mostOpen → Clean (opened d m)
   unfolding opened withOpen
   opened-clean m h =
       let n : length (opens d) ≡ d .«open_count» = opens-length d a (omega arith) in
@@ -58,7 +58,7 @@ module _ (d : TagDecoder) (a : Arrays d) (c : Clean d) where
       }
 
   -- with the masters above the first k closed
-  pub closed-clean : (k : ℕ) → k ≤ d .«open_count» → d .«open_count» ≤ 32 → Clean (closedTo d k)
+  pub closed-clean : (k : ℕ) → k ≤ d .«open_count» → d .«open_count» ≤ mostOpen → Clean (closedTo d k)
   unfolding closedTo endsFrom withOpen withWaiting
   closed-clean k h m =
       record {
@@ -67,7 +67,7 @@ module _ (d : TagDecoder) (a : Arrays d) (c : Clean d) where
       }
 
   -- with an End handed out
-  pub handed-clean : d .«waiting_count» ≤ 32 → Clean (handedOut d)
+  pub handed-clean : d .«waiting_count» ≤ mostOpen → Clean (handedOut d)
   unfolding handedOut withWaiting
   handed-clean h =
       record {
@@ -79,13 +79,13 @@ module _ (d : TagDecoder) (a : Arrays d) (c : Clean d) where
       }
 
   -- with its sizes grown
-  pub grown-clean : (n : ℕ) → d .«open_count» ≤ 32 → Clean (withSizesGrown d n)
+  pub grown-clean : (n : ℕ) → d .«open_count» ≤ mostOpen → Clean (withSizesGrown d n)
   unfolding withSizesGrown withOpen
   grown-clean n h =
       let len : length (opens d) ≡ d .«open_count» = opens-length d a h in
       let len′ : length (map (sizeGrown n) (opens d)) ≡ d .«open_count» = length-map (opens d) (sizeGrown n) ∙ len in
-      let back : drop (d .«open_count») (d .«open») ≡ replicate (32 - length (map (sizeGrown n) (opens d))) noTag =
-      ap (drop (d .«open_count»)) (c .masters) ∙ filled-back noTag (opens d) (d .«open_count») len ∙ ap (λ (j : ℕ). replicate (32 - j) noTag) (sym len′) in
+      let back : drop (d .«open_count») (d .«open») ≡ replicate (mostOpen - length (map (sizeGrown n) (opens d))) noTag =
+      ap (drop (d .«open_count»)) (c .masters) ∙ filled-back noTag (opens d) (d .«open_count») len ∙ ap (λ (j : ℕ). replicate (mostOpen - j) noTag) (sym len′) in
       record {
         masters = ap (λ (l : List OpenTag). map (sizeGrown n) (opens d) ++ l) back ∙ ap (filled noTag) (sym (grown-opens d n (omega (arith, a .masters))));
         ends = c .ends;

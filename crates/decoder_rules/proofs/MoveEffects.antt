@@ -10,7 +10,7 @@ use native.Mathlib.Omega.{arith}
 use lib.ListN.{length, getD, take, drop, length-append, length-map, length-take, length-drop, length-set, length-reverse}
 use lib.Seq.{length-take-le, take-at, take-suc-set}
 use Rattle.table.specs.declared.types.PathPart.{PathPart}
-use Rattle.spec_util.specs.Walk.{noTag}
+use Rattle.spec_util.specs.Walk.{mostOpen, noTag}
 use Rattle.spec_util.specs.declared.types.OpenTag.{OpenTag}
 use Rattle.decoder_rules.specs.Record.{opens, waits, endFor, noEnd, fresh, withOpen, withWaiting, withNotes, implied, settledTo, opened, endsFrom, closedTo, handedOut, sizeGrown, withSizesGrown}
 use Rattle.decoder_rules.specs.declared.types.TagDecoder.{TagDecoder}
@@ -228,15 +228,15 @@ module _ (d : TagDecoder) where
 
 -- both arrays of a record have 32 places
 pub record Arrays (d : TagDecoder) : Type 0 where
-  pub masters : length (d .«open») ≡ 32
-  pub ends : length (d .waiting) ≡ 32
+  pub masters : length (d .«open») ≡ mostOpen
+  pub ends : length (d .waiting) ≡ mostOpen
 
 -- so a list is as long as its count says
-pub opens-length : (d : TagDecoder) → Arrays d → d .«open_count» ≤ 32 → length (opens d) ≡ d .«open_count»
+pub opens-length : (d : TagDecoder) → Arrays d → d .«open_count» ≤ mostOpen → length (opens d) ≡ d .«open_count»
 opens-length d a h = length-take-le (d .«open_count») (d .«open») (omega (arith, a .masters))
 
 -- and the other list too
-pub waits-length : (d : TagDecoder) → Arrays d → d .«waiting_count» ≤ 32 → length (waits d) ≡ d .«waiting_count»
+pub waits-length : (d : TagDecoder) → Arrays d → d .«waiting_count» ≤ mostOpen → length (waits d) ≡ d .«waiting_count»
 waits-length d a h = length-take-le (d .«waiting_count») (d .waiting) (omega (arith, a .ends))
 
 -- a fresh record has its places
@@ -249,7 +249,7 @@ module _ (d : TagDecoder) (a : Arrays d) where
   unfolding withNotes
   with-notes-arrays p s f = record { masters = a .masters; ends = a .ends }
 
-  pub settled-arrays : (path : List PathPart) → length path ≤ 32 → Arrays (settledTo d path)
+  pub settled-arrays : (path : List PathPart) → length path ≤ mostOpen → Arrays (settledTo d path)
   unfolding settledTo withOpen withNotes
   settled-arrays path h = record { masters = filled-length noTag (map implied path) (rw length-map h); ends = a .ends }
 

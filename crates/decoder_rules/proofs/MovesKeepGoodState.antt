@@ -1,15 +1,16 @@
 -- Each move keeps what refusal 11 asks of a record, so no call refuses with it what a call gave. Assumes nothing.
-use Prim.Native.Nat.{ℕ, _+_, _^_, _≤_, _<_}
+use Prim.Native.Nat.{ℕ, _+_, _≤_, _<_}
 use mathlib.Core.Path.{_≡_, refl}
 use mathlib.Core.Bool.{Bool, true, false, cond, false≢true}
 use mathlib.Core.List.{List, [], _∷_, map}
 use native.Mathlib.Omega.{arith}
+use Rattle.spec_util.specs.Walk.{mostOpen}
 use Rattle.basics.specs.Lists.{every}
 use Rattle.table.specs.declared.types.PathPart.{PathPart}
 use Rattle.table.specs.declared.types.PathPart.the-variants.{Id, Global}
 use Rattle.spec_util.specs.declared.types.OpenTag.{OpenTag}
 use lib.ListN.{length}
-use Rattle.decoder_rules.specs.Record.{opens, fresh, withOpen, withWaiting, withNotes, implied, settledTo, opened, closedTo, handedOut, sizeGrown, withSizesGrown}
+use Rattle.decoder_rules.specs.Record.{farthest, opens, fresh, withOpen, withWaiting, withNotes, implied, settledTo, opened, closedTo, handedOut, sizeGrown, withSizesGrown}
 use Rattle.decoder_rules.specs.OneCall.{goodOpen}
 use Rattle.decoder_rules.specs.declared.types.TagDecoder.{TagDecoder}
 use Rattle.basics.proofs.Every.{every-append, every-take, every-map, every-other}
@@ -31,7 +32,7 @@ good-later p q h m e =
     is-good-open q m (record { start = omega (arith, g .start); size = λ k. omega (arith, g .size k) })
 
 -- so the record stays good there
-pub with-notes-good : (d : TagDecoder) → GoodState d → (p : ℕ) (s f : Bool) → d .position ≤ p → p ≤ 2 ^ 62 → GoodState (withNotes d p s f)
+pub with-notes-good : (d : TagDecoder) → GoodState d → (p : ℕ) (s f : Bool) → d .position ≤ p → p ≤ farthest → GoodState (withNotes d p s f)
 unfolding withNotes
 with-notes-good d g p s f h k =
     record {
@@ -55,7 +56,7 @@ implied-all p (part ∷ path) = and-both (implied-good p part) (implied-all p pa
 
 module _ (d : TagDecoder) (g : GoodState d) where
   -- the record stays good settled to a path that fits it
-  pub settled-good : (path : List PathPart) → length path ≤ 32 → GoodState (settledTo d path)
+  pub settled-good : (path : List PathPart) → length path ≤ mostOpen → GoodState (settledTo d path)
   unfolding settledTo withOpen withNotes
   settled-good path h =
       record {
@@ -72,7 +73,7 @@ module _ (d : TagDecoder) (g : GoodState d) where
 
   module _ (a : Arrays d) where
     -- with a good master more, where there is room
-    pub opened-good : (m : OpenTag) → d .«open_count» < 32 → goodOpen (d .position) m ≡ true → GoodState (opened d m)
+    pub opened-good : (m : OpenTag) → d .«open_count» < mostOpen → goodOpen (d .position) m ≡ true → GoodState (opened d m)
     unfolding opened withOpen every
     opened-good m h e =
         record {

@@ -1,6 +1,6 @@
 -- The next answer of a whole input, from what stands in the buffer: u is unread, and rest is still to be read. Assumes
 -- nothing.
-use Prim.Native.Nat.{ℕ, _+_, _-_, _^_, _≤_, _<_}
+use Prim.Native.Nat.{ℕ, _+_, _-_, _≤_, _<_}
 use mathlib.Core.Path.{_≡_, sym, ap, _∙_}
 use mathlib.Core.Bool.{true, false}
 use mathlib.Core.List.{List, _++_, append-nil}
@@ -9,6 +9,7 @@ use native.Mathlib.Decide.{decLe}
 use borrow.Author.Tests.{lt-ltb, le-ltb}
 use lib.ListN.{length, take, length-append, length-take}
 use lib.Seq.{take-append-add, take-all}
+use Rattle.decoder_rules.specs.Record.{farthest}
 use Rattle.tools.specs.Bytes.{Octets}
 use Rattle.tools.proofs.BigEndian.{octets-take}
 use Rattle.table.specs.Table.{tableOf}
@@ -40,7 +41,7 @@ unfolding decodeEof
 eof-same d e s q = ap (λ (r : Decoded). endedOr (tableOf benchEntries benchParts) s r (r .answer)) q
 
 module _ (size : ℕ) (d : TagDecoder) (u rest : List ℕ) (held : length u ≤ size) (byte : Octets (u ++ rest)) (open-still : d .finished ≡ false)
-    (near : d .position + length (u ++ rest) ≤ 2 ^ 62) where
+    (near : d .position + length (u ++ rest) ≤ farthest) where
   abbrev more : List ℕ
   more = take (size - length u) rest
 
@@ -51,7 +52,7 @@ module _ (size : ℕ) (d : TagDecoder) (u rest : List ℕ) (held : length u ≤ 
   octets-view : Octets (u ++ more)
   octets-view = rw in-view at (octets-take size (u ++ rest) byte)
 
-  near-view : d .position + length (u ++ more) ≤ 2 ^ 62
+  near-view : d .position + length (u ++ more) ≤ farthest
   near-view =
       let n = near in
       omega (arith, length-append u rest, length-append u more, length-take (size - length u) rest)

@@ -7,6 +7,7 @@ use mathlib.Core.Bool.{Bool, true}
 use mathlib.Core.List.{List, [], _∷_}
 use native.Mathlib.Omega.{arith}
 use lib.ListN.{length}
+use Rattle.spec_util.specs.Walk.{mostOpen}
 use Rattle.tools.specs.Bytes.{Octets}
 use Rattle.table.specs.Shape.{goodShape}
 use Rattle.table.specs.Table.{tableOf, partsOf, partsIn}
@@ -52,8 +53,8 @@ use Rattle.guarantees.proofs.Decided.{path-short}
 pub record Tidy (d : TagDecoder) : Type 0 where
   pub arrays : Arrays d
   pub clean : Clean d
-  pub few-open : d .«open_count» ≤ 32
-  pub few-waiting : d .«waiting_count» ≤ 32
+  pub few-open : d .«open_count» ≤ mostOpen
+  pub few-waiting : d .«waiting_count» ≤ mostOpen
 
 fresh-tidy : Tidy fresh
 fresh-tidy = record { arrays = fresh-arrays; clean = fresh-clean; few-open = omega arith; few-waiting = omega arith }
@@ -79,7 +80,7 @@ module _ (d : TagDecoder) (k : Tidy d) where
     few-waiting = k .few-waiting;
   }
 
-  settled-tidy : (path : List PathPart) → length path ≤ 32 → Tidy (settledTo d path)
+  settled-tidy : (path : List PathPart) → length path ≤ mostOpen → Tidy (settledTo d path)
   unfolding settledTo withOpen withNotes
   settled-tidy path h = record {
     arrays = settled-arrays d (k .arrays) path h;
@@ -88,7 +89,7 @@ module _ (d : TagDecoder) (k : Tidy d) where
     few-waiting = k .few-waiting;
   }
 
-  opened-tidy : (m : OpenTag) → d .«open_count» < 32 → Tidy (opened d m)
+  opened-tidy : (m : OpenTag) → d .«open_count» < mostOpen → Tidy (opened d m)
   unfolding opened withOpen
   opened-tidy m h = record {
     arrays = opened-arrays d (k .arrays) m;

@@ -1,5 +1,5 @@
 -- Each move of the record keeps what ties it to what a caller can tell. Assumes nothing.
-use Prim.Native.Nat.{ℕ, suc, _+_, _^_, _≤_, _<_}
+use Prim.Native.Nat.{ℕ, suc, _+_, _≤_, _<_}
 use mathlib.Core.Path.{_≡_, refl, sym, ap, _∙_}
 use mathlib.Core.Bool.{Bool, true, false, true≢false}
 use mathlib.Core.List.{List, [], _∷_, _++_, map, reverse, append-nil, map-append, map-map, reverse-append, reverse-cons}
@@ -11,8 +11,8 @@ use Rattle.table.specs.Table.{Entry, dataTypeOf, isMaster}
 use Rattle.table.specs.declared.types.PathPart.{PathPart}
 use Rattle.table.specs.declared.types.PathPart.the-variants.{Id, Global}
 use Rattle.spec_util.specs.declared.types.OpenTag.{OpenTag}
-use Rattle.spec_util.specs.Walk.{noTag}
-use Rattle.decoder_rules.specs.Record.{opens, endOf, endFor, noEnd, implied, withSettings, withOpen, withWaiting, withNotes, settledTo, opened, endsFrom, closedTo, handedOut, sizeGrown, withSizesGrown, waits}
+use Rattle.spec_util.specs.Walk.{mostOpen, noTag}
+use Rattle.decoder_rules.specs.Record.{farthest, opens, endOf, endFor, noEnd, implied, withSettings, withOpen, withWaiting, withNotes, settledTo, opened, endsFrom, closedTo, handedOut, sizeGrown, withSizesGrown, waits}
 use Rattle.decoder_rules.specs.OneCall.{goodOpen}
 use Rattle.decoder_rules.specs.declared.types.Optional.{Optional}
 use Rattle.decoder_rules.specs.declared.types.Optional.the-variants.{Number}
@@ -50,7 +50,7 @@ module _ (t : List Entry) (d : TagDecoder) (starts : List Started) (left : List 
   }
 
   -- a position further on
-  pub moved-linked : (q : ℕ) (f : Bool) → d .position ≤ q → q ≤ 2 ^ 62 → Linked t (withNotes d q (d .settled) f) starts left q
+  pub moved-linked : (q : ℕ) (f : Bool) → d .position ≤ q → q ≤ farthest → Linked t (withNotes d q (d .settled) f) starts left q
   unfolding withNotes
   moved-linked q f h l = record {
     arrays = with-notes-arrays d (k .arrays) q (d .settled) f;
@@ -99,7 +99,7 @@ settled-parts starts left ended path p q r = rw (p, q, r, append-nil) (as-parent
 
 module _ (t : List Entry) (d : TagDecoder) (starts : List Started) (left : List ℕ) (p : ℕ) (k : Linked t d starts left p) where
   -- the record settles: the parents of the path are implied
-  pub settled-linked : (path : List PathPart) → d .settled ≡ false → allMasters t (map implied path) ≡ true → length path ≤ 32
+  pub settled-linked : (path : List PathPart) → d .settled ≡ false → allMasters t (map implied path) ≡ true → length path ≤ mostOpen
       → Linked t (settledTo d path) starts (map (λ (m : OpenTag). m .id) (reverse (map implied path)) ++ left) p
   unfolding settledTo withOpen withNotes every
   settled-linked path u m h =
@@ -122,7 +122,7 @@ module _ (t : List Entry) (d : TagDecoder) (starts : List Started) (left : List 
   -- ---- a Start
 
   -- a master starts
-  pub opened-linked : (m : OpenTag) → d .«waiting_count» ≡ 0 → d .settled ≡ true → d .«open_count» < 32 → goodOpen (d .position) m ≡ true
+  pub opened-linked : (m : OpenTag) → d .«waiting_count» ≡ 0 → d .settled ≡ true → d .«open_count» < mostOpen → goodOpen (d .position) m ≡ true
       → isMaster (dataTypeOf t (m .id)) ≡ true → Linked t (opened d m) (asStarted m ∷ starts) left p
   unfolding opened withOpen every
   opened-linked m w s h g e =
@@ -165,8 +165,8 @@ module _ (t : List Entry) (d : TagDecoder) (starts : List Started) (left : List 
     unfolding every
     kind-first = both (isMaster (dataTypeOf t (m .id))) (allStarted t rest) (rw e at (k .kinds)) .left
 
-    few-left : length (stack (drop 1 starts) (leftByEnd starts left)) ≤ 32
-    few-left = rw (popped starts left m rest e .1) (let h : suc (length rest) ≤ 32 = rw e at (k .few) in omega arith)
+    few-left : length (stack (drop 1 starts) (leftByEnd starts left)) ≤ mostOpen
+    few-left = rw (popped starts left m rest e .1) (let h : suc (length rest) ≤ mostOpen = rw e at (k .few) in omega arith)
 
   handed-go : (ended : List Started) → map asEnd ended ≡ waits d → stack starts left ≡ ended ++ map asStarted (reverse (opens d)) → 0 < d .«waiting_count»
       → Popped t (handedOut d) starts left p (getD (d .waiting) 0 noEnd)

@@ -1,6 +1,6 @@
 -- A recovery: where it stops, the invariant holds, with the open ends grown where it found a header; its only refusal
 -- is 12. Assumes nothing.
-use Prim.Native.Nat.{ℕ, suc, _+_, _-_, _^_, _≤_}
+use Prim.Native.Nat.{ℕ, suc, _+_, _-_, _≤_}
 use mathlib.Core.Path.{_≡_, refl, sym, _∙_, subst}
 use mathlib.Core.Bool.{Bool, true, false, _||_}
 use mathlib.Core.List.{List, [], _∷_, _++_, map}
@@ -15,7 +15,7 @@ use Rattle.table.specs.Passed.{PassedTable}
 use Rattle.tag_parse.specs.Header.{readHeader}
 use Rattle.tag_parse.specs.declared.types.ReadHeader.{ReadHeader}
 use Rattle.tag_parse.specs.declared.types.ReadHeader.the-variants as header
-use Rattle.decoder_rules.specs.Record.{opens, implied, withOpen, withNotes, settledTo, withSizesGrown}
+use Rattle.decoder_rules.specs.Record.{farthest, opens, implied, withOpen, withNotes, settledTo, withSizesGrown}
 use Rattle.decoder_rules.specs.Numbers.{errorNumber}
 use Rattle.decoder_rules.specs.OneCall.{goodOpen, checkRecord10to12, step6, step7, noted, isSettle}
 use Rattle.decoder_rules.specs.Recovery.{forward, endOfSearch, endingAt, ending, searchOr, tryRecover}
@@ -82,13 +82,13 @@ record Passing (t : List Entry) (starts : List Started) (left : List ℕ) (p : �
   batch : endedBy p (outermostEnd (take (e .«waiting_count») (stack starts left))) ≡ true
   behind : p ≤ e .position
   good : every (goodOpen p) (opens e) ≡ true
-  near : e .position + n ≤ 2 ^ 62
+  near : e .position + n ≤ farthest
 
 module _ (t : List Entry) (starts : List Started) (left : List ℕ) (p : ℕ) (e : TagDecoder) (n : ℕ) where
   one-on : Passing t starts left p e (suc n) → Passing t starts left p (forward e) n
   unfolding withNotes
   one-on k =
-      let near : e .position + suc n ≤ 2 ^ 62 = k .near in
+      let near : e .position + suc n ≤ farthest = k .near in
       let behind : p ≤ e .position = k .behind in
       record {
         linked = moved-linked t e starts left (e .position) (k .linked) (e .position + 1) (e .finished) (omega arith) (omega arith);

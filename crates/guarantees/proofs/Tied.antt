@@ -7,6 +7,7 @@ use mathlib.Core.Bool.{Bool, true, false, false≢true}
 use mathlib.Core.List.{List, [], _∷_, _++_, map, reverse}
 use native.Mathlib.Omega.{arith}
 use lib.ListN.{length, take, drop}
+use Rattle.spec_util.specs.Walk.{mostOpen}
 use Rattle.basics.specs.Lists.{every}
 use Rattle.table.specs.Table.{Entry, dataTypeOf, isMaster}
 use Rattle.spec_util.specs.declared.types.OpenTag.{OpenTag}
@@ -60,7 +61,7 @@ pub record Linked (t : List Entry) (d : TagDecoder) (starts : List Started) (lef
   pub waiting : map asEnd ended ≡ waits d
   pub parts : stack starts left ≡ ended ++ map asStarted (reverse (opens d))
   pub kinds : allStarted t (stack starts left) ≡ true
-  pub few : length (stack starts left) ≤ 32
+  pub few : length (stack starts left) ≤ mostOpen
   pub place : d .position ≡ p
   pub unsettled : d .settled ≡ false → stack starts left ≡ []
 

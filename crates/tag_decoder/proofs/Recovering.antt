@@ -1,5 +1,5 @@
 -- Recovery, place by place: what one place leaves of the record, and where the search ends. Assumes nothing.
-use Prim.Native.Nat.{ℕ, suc, _+_, _^_, _≤_, _<_}
+use Prim.Native.Nat.{ℕ, suc, _+_, _≤_, _<_}
 use mathlib.Core.Path.{_≡_, refl, sym, ap, _∙_, subst}
 use mathlib.Core.Bool.{true}
 use mathlib.Core.List.{List, [], _∷_}
@@ -14,7 +14,7 @@ use Rattle.tag_parse.specs.declared.types.ReadHeader.{ReadHeader}
 use Rattle.tag_parse.specs.declared.types.ReadHeader.the-variants as header
 use Rattle.tag_parse.specs.declared.types.TagHeader.{TagHeader}
 use Rattle.tag_parse.proofs.Cases.{octets-drop}
-use Rattle.decoder_rules.specs.Record.{withOpen, withNotes, settledTo}
+use Rattle.decoder_rules.specs.Record.{farthest, withOpen, withNotes, settledTo}
 use Rattle.decoder_rules.specs.OneCall.{step6, settles, step7, noted, validHeader}
 use Rattle.decoder_rules.specs.Recovery.{at, stepOn, judged, judgedAt, headerAt, readAt, placeAt, unlessOn, endOfSearch}
 use Rattle.decoder_rules.specs.declared.types.Check.{Check}
@@ -72,7 +72,7 @@ pub record Well (d : TagDecoder) (p : PlaceResult) : Type 0 where
 stays : (d e : TagDecoder) (p : Place) → passed p ≡ 0 → GoodState e → e .position ≡ d .position → Well d (at p e)
 stays d e p z g h = record { good = g; moved = omega (arith, z, h) }
 
-goes : (d e : TagDecoder) → GoodState e → e .position ≡ d .position → d .position + 1 ≤ 2 ^ 62 → Well d (stepOn e)
+goes : (d e : TagDecoder) → GoodState e → e .position ≡ d .position → d .position + 1 ≤ farthest → Well d (stepOn e)
 unfolding withNotes
 goes d e g h n =
     record {
@@ -80,7 +80,7 @@ goes d e g h n =
       moved = omega (arith, h);
     }
 
-module _ (es ps : List ℕ) (shape : goodShape es ps ≡ true) (d : TagDecoder) (g : GoodState d) (n : d .position + 1 ≤ 2 ^ 62) where
+module _ (es ps : List ℕ) (shape : goodShape es ps ≡ true) (d : TagDecoder) (g : GoodState d) (n : d .position + 1 ≤ farthest) where
   header-well : (h : TagHeader) → GoodHeader es ps h → Well d (headerAt ps (tableOf es ps) d h)
   unfolding headerAt judgedAt
   header-well h good =
@@ -155,7 +155,7 @@ module _ (es ps : List ℕ) (d : TagDecoder) (s : List ℕ) (e : TagDecoder) (i 
     searched-found q = search-finds ps (tableOf es ps) e (drop i s) p (omega (arith, length-drop i s)) is q ∙ sym (so-far .same)
 
     -- else it has come one place further
-    pub searched-on : goodShape es ps ≡ true → Octets s → d .position + length s ≤ 2 ^ 62 → p .place ≡ On → Searched ps (tableOf es ps) d s (p .state) (i + 1)
+    pub searched-on : goodShape es ps ≡ true → Octets s → d .position + length s ≤ farthest → p .place ≡ On → Searched ps (tableOf es ps) d s (p .state) (i + 1)
     searched-on shape byte near q =
         let w : Well e p = subst (Well e) (sym is) (place-well es ps shape e (so-far .good) (omega (arith, so-far .moved)) (drop i s) (octets-drop i s byte)) in
         let m : p .state .position ≡ e .position + 1 = w .moved ∙ ap (λ (x : Place). e .position + passed x) q in
@@ -172,14 +172,14 @@ pub record EndWell (d : TagDecoder) (n : ℕ) (p : PlaceResult) : Type 0 where
   pub within : p .state .position ≤ d .position + n
 
 -- so the search ends well
-pub end-well : (es ps : List ℕ) → goodShape es ps ≡ true → (d : TagDecoder) (s : List ℕ) → GoodState d → Octets s → d .position + length s ≤ 2 ^ 62
+pub end-well : (es ps : List ℕ) → goodShape es ps ≡ true → (d : TagDecoder) (s : List ℕ) → GoodState d → Octets s → d .position + length s ≤ farthest
     → EndWell d (length s) (endOfSearch ps (tableOf es ps) d s)
 unfolding endOfSearch
 end-well es ps shape d [] g byte near = record { good = g; later = omega arith; within = omega arith }
 end-well es ps shape d (b ∷ s) g byte near =
     go (λ e g near. end-well es ps shape e s g (λ i. byte (suc i)) near) (placeAt ps (tableOf es ps) d (b ∷ s)) (place-well es ps shape d g (omega arith) (b ∷ s) byte)
   where
-    go : ((e : TagDecoder) → GoodState e → e .position + length s ≤ 2 ^ 62 → EndWell e (length s) (endOfSearch ps (tableOf es ps) e s))
+    go : ((e : TagDecoder) → GoodState e → e .position + length s ≤ farthest → EndWell e (length s) (endOfSearch ps (tableOf es ps) e s))
         → (p : PlaceResult) → Well d p → EndWell d (suc (length s)) (unlessOn (p .place) (p .state) (λ next. endOfSearch ps (tableOf es ps) next s))
     go on p w = by (p .place) refl
       where

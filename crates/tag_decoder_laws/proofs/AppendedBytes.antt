@@ -2,12 +2,13 @@
 -- when bytes are appended (`decode-local`). A call that asks for more may settle the record; called again on more
 -- bytes, the record so left answers what it would have answered without that call (`need-more-changes-nothing`).
 -- Assumes nothing.
-use Prim.Native.Nat.{ℕ, zero, suc, _+_, _^_, _≤_, _<_}
+use Prim.Native.Nat.{ℕ, zero, suc, _+_, _≤_, _<_}
 use mathlib.Core.Path.{_≡_, refl, sym, ap, _∙_}
 use mathlib.Core.Bool.{true, false}
 use mathlib.Core.List.{List, [], _∷_, _++_}
 use native.Mathlib.Omega.{arith}
 use lib.ListN.{length, getD}
+use Rattle.decoder_rules.specs.Record.{farthest}
 use Rattle.tools.specs.Bytes.{Octets}
 use Rattle.table.specs.declared.types.Path.{Path}
 use Rattle.decoder_rules.specs.OneCall.{noted}
@@ -22,7 +23,7 @@ use Rattle.decoder_rules.proofs.Exits.{exits, Settling, settling-exit}
 use Rattle.decoder_rules.proofs.MoveLaws.{decode-needs-more, decode-more-stays}
 use Rattle.tag_decoder_laws.proofs.Settling.{settling-decides, settled-once}
 
-module _ (es ps : List ℕ) (d : TagDecoder) (s u : List ℕ) (byte : getD s 0 0 < 256) (open-still : d .finished ≡ false) (near : d .position + length (s ++ u) ≤ 2 ^ 62) where
+module _ (es ps : List ℕ) (d : TagDecoder) (s u : List ℕ) (byte : getD s 0 0 < 256) (open-still : d .finished ≡ false) (near : d .position + length (s ++ u) ≤ farthest) where
   -- an answer that does not ask for more stays when bytes are appended: the event, the bytes taken and the record
   pub decode-local : needsMore (decode es ps d s .answer) ≡ false → decode es ps d (s ++ u) ≡ decode es ps d s
   decode-local q = ap (apply ps d) (sym (decide-longer es ps d s u byte open-still near (sym (decode-needs-more es ps d s) ∙ q)))
@@ -33,7 +34,7 @@ octets-front [] u byte i = omega arith
 octets-front (x ∷ s) u byte zero = byte 0
 octets-front (x ∷ s) u byte (suc i) = octets-front s u (λ j. byte (suc j)) i
 
-module _ (es ps : List ℕ) (d : TagDecoder) (s u : List ℕ) (byte : Octets (s ++ u)) (open-still : d .finished ≡ false) (near : d .position + length (s ++ u) ≤ 2 ^ 62) where
+module _ (es ps : List ℕ) (d : TagDecoder) (s u : List ℕ) (byte : Octets (s ++ u)) (open-still : d .finished ≡ false) (near : d .position + length (s ++ u) ≤ farthest) where
   -- a note that is made on the first bytes is made on all
   note-local : (path : Path) → decide es ps d s .note ≡ Settle path → decide es ps d (s ++ u) .note ≡ Settle path
   note-local path q =

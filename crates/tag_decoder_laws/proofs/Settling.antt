@@ -1,12 +1,13 @@
 -- A call that settles the record decides what it would decide on the record so settled: settling is done once, and what
 -- it leaves is what the steps after it go by. Assumes nothing.
-use Prim.Native.Nat.{ℕ, _+_, _^_, _≤_}
+use Prim.Native.Nat.{ℕ, _+_, _≤_}
 use mathlib.Core.Path.{_≡_, refl, sym, ap, _∙_}
 use mathlib.Core.Bool.{Bool, true, false, not, _&&_, false≢true}
 use mathlib.Core.List.{List, [], _∷_, map}
 use native.Mathlib.Omega.{arith}
 use borrow.Author.Tests.{le-leb}
 use lib.ListN.{length}
+use Rattle.spec_util.specs.Walk.{mostOpen}
 use Rattle.basics.specs.Lists.{firstIndex}
 use Rattle.basics.proofs.Bools.{cond-yes}
 use Rattle.tools.specs.Bytes.{Octets}
@@ -16,7 +17,7 @@ use Rattle.table.specs.declared.types.Path.{Path}
 use Rattle.table.specs.declared.types.PathPart.{PathPart}
 use Rattle.table.specs.declared.types.PathPart.the-variants.{Id, Global}
 use Rattle.tag_parse.specs.declared.types.TagHeader.{TagHeader}
-use Rattle.decoder_rules.specs.Record.{implied, settledTo}
+use Rattle.decoder_rules.specs.Record.{farthest, implied, settledTo}
 use Rattle.decoder_rules.specs.OneCall.{check10to12, checkRecord10to12, isFull, step3, step6, settles, step7, noted}
 use Rattle.decoder_rules.specs.Deciding.{steps8-11, decide}
 use Rattle.decoder_rules.specs.Moving.{apply, decode}
@@ -66,7 +67,7 @@ none-full-implied p [] = refl
 none-full-implied p (Id x ∷ path) = rw (none-full-implied p path) (omega arith)
 none-full-implied p (Global a b ∷ path) = rw (none-full-implied p path) (omega arith)
 
-module _ (es ps : List ℕ) (d : TagDecoder) (s : List ℕ) (path : Path) (short : length (partsIn (partsOf ps) path) ≤ 32) (w : Settling es ps d s path) where
+module _ (es ps : List ℕ) (d : TagDecoder) (s : List ℕ) (path : Path) (short : length (partsIn (partsOf ps) path) ≤ mostOpen) (w : Settling es ps d s path) where
   abbrev parts : List PathPart
   parts = partsIn (partsOf ps) path
 
@@ -79,7 +80,7 @@ module _ (es ps : List ℕ) (d : TagDecoder) (s : List ℕ) (path : Path) (short
   first-again ok =
       let p = passed12 es ps d (length s) (ok .first) in
       let good = is-good-state after (settled-good d (p .good) parts short) in
-      let near : after .position + length s ≤ 2 ^ 62 = rw (settled-position d parts) (p .near) in
+      let near : after .position + length s ≤ farthest = rw (settled-position d parts) (p .near) in
       rw (p .shape, good, le-leb _ _ near)
 
   admitted-again : Admitted es ps d s → Admitted es ps after s

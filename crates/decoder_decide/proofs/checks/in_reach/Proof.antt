@@ -1,7 +1,8 @@
 -- `decoder_decide::checks::in_reach`: the sum is compared as a difference. Assumes nothing.
-use Prim.Native.Nat.{_+_, _^_, _<_}
+use Prim.Native.Nat.{_+_, _<_}
 use native.Mathlib.Omega.{arith}
 use borrow.Author.Tests.{lt-leb}
+use Rattle.decoder_rules.specs.Record.{farthest}
 use Rattle.basics.proofs.Sums.{sum-within}
 use Rattle.decoder_decide.proofs.checks.in_reach.Statement.{statement}
 use Rattle.decoder_decide.proofs.checks.in_reach.Tie as tie
@@ -9,7 +10,7 @@ use Rattle.decoder_decide.proofs.checks.in_reach.Tie as tie
 returns : tie.Need-returns
 returns c =
     let a = c .before .args in
-    let h : 2 ^ 62 < a .position + a .n = omega arith in
+    let h : farthest < a .position + a .n = omega arith in
     rw (lt-leb _ _ h)
 
 returns-2 : tie.Need-returns-2

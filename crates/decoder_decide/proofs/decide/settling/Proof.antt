@@ -5,6 +5,7 @@ use mathlib.Core.Path.{_≡_, refl, sym, ap, _∙_}
 use mathlib.Core.Bool.{false}
 use native.Mathlib.Omega.{arith}
 use lib.ListN.{length, length-set, getD-replicate}
+use Rattle.spec_util.specs.Walk.{mostOpen}
 use Rattle.table.specs.Table.{partsOf, partsIn}
 use Rattle.table.specs.declared.types.PathPart.{PathPart}
 use Rattle.decoder_rules.specs.Record.{implied, settledTo}
@@ -14,7 +15,7 @@ use Rattle.decoder_decide.proofs.decide.settling.Statement.{statement}
 use Rattle.decoder_decide.proofs.decide.settling.Tie as tie
 
 abbrev Inv-loop : tie.InvT-loop
-Inv-loop entries parts s path h input count knowns ids₀ i₀ ids i = (i ≤ count) × (length ids ≡ 32) × ImpliedIds ids (partsIn (partsOf parts) path) i
+Inv-loop entries parts s path h input count knowns ids₀ i₀ ids i = (i ≤ count) × (length ids ≡ mostOpen) × ImpliedIds ids (partsIn (partsOf parts) path) i
 
 abbrev μ-loop : tie.MeasureT-loop
 μ-loop entries parts s path h input count knowns ids₀ i₀ ids i = count - i
@@ -77,7 +78,7 @@ returns c d e =
     let n : l .before .path-length .result ≡ length path = l .before .path-length .ensures in
     let q = c .before .before .before .settled-view .ensures ∙ ap (settledView (a .view)) n in
     c .steps8-11 .ensures (settledTo d path) (q ∙ settled-seen d path e)
-    (rw q (settled-shown d path (λ i h. l .loop .inv .2 i (omega arith)) (λ i h. getD-replicate 32 i false false (omega arith))))
+    (rw q (settled-shown d path (λ i h. l .loop .inv .2 i (omega arith)) (λ i h. getD-replicate mostOpen i false false (omega arith))))
 
 pub settling-spec : {M : Type 1} → statement M
 settling-spec =

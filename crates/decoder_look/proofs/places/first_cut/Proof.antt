@@ -3,7 +3,7 @@ use Prim.Native.Nat.{_-_, _≤_}
 use mathlib.Core.Path.{_≡_, sym, _∙_}
 use native.Mathlib.Omega.{arith}
 use lib.ListN.{length}
-use Rattle.spec_util.specs.Walk.{noTag}
+use Rattle.spec_util.specs.Walk.{mostOpen, noTag}
 use Rattle.decoder_rules.specs.EndOfInput.{isCut}
 use Rattle.basics.proofs.ArrayOf32.{length-of-map}
 use Rattle.basics.proofs.Loops.{NoneBefore, first-found, first-next, first-none}
@@ -17,7 +17,7 @@ abbrev μ-loop : tie.MeasureT-loop
 μ-loop d position n i₀ i = n - i
 
 reach : (c : tie.Start Inv-loop μ-loop) → c .args .t1 .«open_count» ≤ length (c .args .t1 .«open»)
-reach c = let h : length (c .args .t1 .«open») ≡ 32 = search length-of-map in omega arith
+reach c = let h : length (c .args .t1 .«open») ≡ mostOpen = search length-of-map in omega arith
 
 loop-holds : tie.Need-loop-holds Inv-loop μ-loop
 loop-holds c = omega arith

@@ -2,6 +2,7 @@
 use mathlib.Core.Path.{_≡_, _∙_}
 use native.Mathlib.Omega.{arith}
 use lib.ListN.{length}
+use Rattle.spec_util.specs.Walk.{mostOpen}
 use Rattle.basics.proofs.ArrayOf32.{length-of-map}
 use Rattle.decoder_rules.specs.Moving.{move}
 use Rattle.decoder_rules.proofs.MoveEffects.{ends-head}
@@ -9,7 +10,7 @@ use borrow.Author.Needs.{needs}
 use Rattle.decoder_move.proofs.answers.close.Statement.{statement}
 use Rattle.decoder_move.proofs.answers.close.Tie as tie
 
-long : (c : tie.Start) → length (c .args .t1 .«open») ≡ 32
+long : (c : tie.Start) → length (c .args .t1 .«open») ≡ mostOpen
 long c = search length-of-map
 
 sub-top : tie.Need-sub-top

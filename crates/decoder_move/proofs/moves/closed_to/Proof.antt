@@ -8,7 +8,7 @@ use native.Mathlib.Omega.{arith}
 use borrow.Author.Needs.{needs}
 use lib.ListN.{length, getD, take, drop, length-take, drop-of-length-le}
 use lib.Seq.{take-all, getD-take, take-take}
-use Rattle.spec_util.specs.Walk.{noTag}
+use Rattle.spec_util.specs.Walk.{mostOpen, noTag}
 use Rattle.decoder_rules.specs.declared.types.TagDecoder.{TagDecoder}
 use Rattle.basics.specs.Lists.{filled}
 use Rattle.decoder_rules.specs.Record.{endFor, noEnd, withOpen, withWaiting, closedTo, endsFrom}
@@ -23,7 +23,7 @@ closingAt d k top i j =
     (filled noEnd (map endFor (reverse (drop j (take top (d .«open»)))))) (top - k)
 
 abbrev Inv-loop : tie.InvT-loop
-Inv-loop k d₀ top tag i₀ d i = (k ≤ i) × (i ≤ 32) × (length (d₀ .«open») ≡ 32) × (tag ≡ noTag) × (d ≡ closingAt d₀ k top i i)
+Inv-loop k d₀ top tag i₀ d i = (k ≤ i) × (i ≤ mostOpen) × (length (d₀ .«open») ≡ mostOpen) × (tag ≡ noTag) × (d ≡ closingAt d₀ k top i i)
 
 abbrev μ-loop : tie.MeasureT-loop
 μ-loop k d₀ top tag i₀ d i = i
@@ -44,8 +44,8 @@ loop-holds : tie.Need-loop-holds Inv-loop μ-loop
 unfolding withOpen withWaiting
 loop-holds c =
     let d = c .before .before .before .args .t1 in
-    let n : length (d .«open») ≡ 32 = search (needs, length-of-map) in
-    (omega arith, omega arith, n, c .before .before .no-tag .ensures, rw (c .before .no-end .ensures, take-all 32 (d .«open») (omega arith), filled-whole noTag (d .«open») n, drop-of-length-le (take (d .«open_count» - 1) (d .«open»)) {i = 32} (simp length-take (omega arith))))
+    let n : length (d .«open») ≡ mostOpen = search (needs, length-of-map) in
+    (omega arith, omega arith, n, c .before .before .no-tag .ensures, rw (c .before .no-end .ensures, take-all mostOpen (d .«open») (omega arith), filled-whole noTag (d .«open») n, drop-of-length-le (take (d .«open_count» - 1) (d .«open»)) {i = mostOpen} (simp length-take (omega arith))))
 
 sub-i : tie.Need-sub-i Inv-loop μ-loop
 sub-i c = omega arith

@@ -5,16 +5,17 @@ use mathlib.Core.Path.{_≡_, refl}
 use native.Mathlib.Omega.{arith}
 use borrow.Author.Needs.{needs}
 use lib.ListN.{length}
+use Rattle.spec_util.specs.Walk.{mostOpen}
 use Rattle.decoder_rules.specs.Record.{noEnd, withWaiting, handedOut}
 use Rattle.basics.proofs.ArrayOf32.{length-of-map, moved, moved-at, moved-next, moved-last}
 use Rattle.decoder_move.proofs.moves.handed_out.Statement.{statement}
 use Rattle.decoder_move.proofs.moves.handed_out.Tie as tie
 
 abbrev Inv-loop : tie.InvT-loop
-Inv-loop d₀ i₀ d i = (i ≤ 31) × (length (d₀ .waiting) ≡ 32) × (d ≡ withWaiting d₀ (moved i (d₀ .waiting)) (d₀ .«waiting_count»))
+Inv-loop d₀ i₀ d i = (i ≤ mostOpen - 1) × (length (d₀ .waiting) ≡ mostOpen) × (d ≡ withWaiting d₀ (moved i (d₀ .waiting)) (d₀ .«waiting_count»))
 
 abbrev μ-loop : tie.MeasureT-loop
-μ-loop d₀ i₀ d i = 31 - i
+μ-loop d₀ i₀ d i = mostOpen - 1 - i
 
 loop-holds : tie.Need-loop-holds Inv-loop μ-loop
 unfolding withWaiting moved
@@ -69,8 +70,8 @@ returns c =
     let l = c .before .before in
     let w = l .before .args .t1 .waiting in
     let h = l .loop .inv in
-    let e : l .loop .i ≡ 31 = omega arith in
-    rw (h .2, e, c .no-end .ensures, moved-last w 31 noEnd (h .1))
+    let e : l .loop .i ≡ mostOpen - 1 = omega arith in
+    rw (h .2, e, c .no-end .ensures, moved-last w (mostOpen - 1) noEnd (h .1))
 
 pub handed-out-spec : {M : Type 1} → statement M
 handed-out-spec =

@@ -6,7 +6,7 @@ use native.Mathlib.Omega.{arith}
 use borrow.Author.Needs.{needs}
 use lib.ListN.{length, getD, length-take}
 use lib.Seq.{getD-take}
-use Rattle.spec_util.specs.Walk.{noTag}
+use Rattle.spec_util.specs.Walk.{mostOpen, noTag}
 use Rattle.decoder_rules.specs.OneCall.{goodOpen}
 use Rattle.decoder_rules.specs.Record.{opens, withOpen, sizeGrown, withSizesGrown}
 use Rattle.basics.proofs.ArrayOf32.{length-of-map, changed, changed-at, changed-next}
@@ -16,7 +16,7 @@ use Rattle.decoder_move.proofs.moves.with_sizes_grown.Statement.{statem
 use Rattle.decoder_move.proofs.moves.with_sizes_grown.Tie as tie
 
 abbrev Inv-loop : tie.InvT-loop
-Inv-loop n d₀ count i₀ d i = (i ≤ count) × (length (d₀ .«open») ≡ 32) × (d ≡ withOpen d₀ (changed (sizeGrown n) i (d₀ .«open»)) count)
+Inv-loop n d₀ count i₀ d i = (i ≤ count) × (length (d₀ .«open») ≡ mostOpen) × (d ≡ withOpen d₀ (changed (sizeGrown n) i (d₀ .«open»)) count)
 
 abbrev μ-loop : tie.MeasureT-loop
 μ-loop n d₀ count i₀ d i = count - i
