@@ -1,10 +1,10 @@
--- What the program prints is the list of its input, wherever the reads cut it: `prints-the-list`. The invariant of a
--- run: what is unread and the pieces that are left are together what is still to come; before the end of input the
+-- The answers of a run are those to its input, wherever the reads cut it: `runs-through`. So what the lister prints is
+-- the list of its input: `prints-the-list`. The invariant of a run: what is unread and the pieces that are left are together what is still to come; before the end of input the
 -- decoder is not finished and within 2^62; after it nothing is left to read, and the buffer has room. Assumes nothing.
 use Prim.Native.Nat.{ℕ, zero, suc, _+_, _-_, _*_, _^_, _≤_, _<_}
 use mathlib.Core.Path.{_≡_, refl, sym, ap, _∙_}
 use mathlib.Core.Bool.{Bool, true, false, cond, false≢true}
-use mathlib.Core.List.{List, [], _++_, append-nil}
+use mathlib.Core.List.{List, [], _∷_, _++_, append-nil}
 use native.Mathlib.Omega.{arith}
 use native.Mathlib.Nat.{not-suc-le-zero}
 use borrow.Author.Tests.{ltb-true, ltb-false}
@@ -24,10 +24,9 @@ use Rattle.decoder_rules.specs.declared.types.Event.{Event}
 use Rattle.decoder_rules.specs.declared.types.TagDecoder.{TagDecoder}
 use Rattle.tag_decoder.proofs.CallLaws.{moves-on}
 use Rattle.table.specs.BenchTable.{benchEntries, benchParts}
-use Rattle.event_list.specs.Line.{line}
 use Rattle.event_list.specs.Reading.{listing, started, unreadCount, unread, called, nextOf, callOnce, unreadMovedToFront}
-use Rattle.event_list.specs.Run.{joined, NoneEmpty, refilled, Prints, a-line, the-last, a-read}
-use Rattle.event_list.specs.Whole.{nextAnswer, Lists, goes-on, ends, ListOf}
+use Rattle.event_list.specs.Run.{joined, NoneEmpty, refilled, answeredAt, Runs, a-line, the-last, a-read, Prints}
+use Rattle.event_list.specs.Whole.{nextAnswer, Answered, answeredBy, Answers, goes-on, ends, AnswersTo, linesOf, ListOf}
 use Rattle.event_list.specs.declared.types.Listing.{Listing}
 use Rattle.event_list.specs.declared.types.Next.{Next}
 use Rattle.event_list.specs.declared.types.Next.the-variants.{Line, Last, Read}
@@ -288,29 +287,29 @@ module _ (l : Listing) (b : List ℕ) (ps : List (List ℕ)) (s : List ℕ) (inv
       rw (inv .whole, same-call)
       (asked-answers (length b) (l .decoder) (unread l b) (joined ps) (held l b ps s inv) byte' (st .open-still) near' asks-decode)
 
-  read-case : {text : List ℕ}
+  read-case : {rs : List Answered}
       → (Inv (refilled (unreadMovedToFront (callOnce l b .listing) b) ps .at) (refilled (unreadMovedToFront (callOnce l b .listing) b) ps .buffer) (refilled (unreadMovedToFront (callOnce l b .listing) b) ps .pieces) s
-      → Lists (length (refilled (unreadMovedToFront (callOnce l b .listing) b) ps .buffer)) (nextAnswer (length (refilled (unreadMovedToFront (callOnce l b .listing) b) ps .buffer)) (refilled (unreadMovedToFront (callOnce l b .listing) b) ps .at .decoder) s) s text)
-      → Lists (length b) (nextAnswer (length b) (l .decoder) s) s text
+      → Answers (length (refilled (unreadMovedToFront (callOnce l b .listing) b) ps .buffer)) (nextAnswer (length (refilled (unreadMovedToFront (callOnce l b .listing) b) ps .buffer)) (refilled (unreadMovedToFront (callOnce l b .listing) b) ps .at .decoder) s) s rs)
+      → Answers (length b) (nextAnswer (length b) (l .decoder) s) s rs
   read-case k =
       let a = read-inv in
       rw same-next at (rw (a .size, a .same) at (k (a .inv)))
 
 -- ---- the theorem
 
--- a run that prints its last line has printed the list of what was still to come
-prints-lists : {l : Listing} {b : List ℕ} {ps : List (List ℕ)} {text : List ℕ} → Prints l b ps text → (s : List ℕ) → Inv l b ps s
-    → Lists (length b) (nextAnswer (length b) (l .decoder) s) s text
+-- a run that has come to its last answer has had the answers to what was still to come
+run-answers : {l : Listing} {b : List ℕ} {ps : List (List ℕ)} {rs : List Answered} → Runs l b ps rs → (s : List ℕ) → Inv l b ps s
+    → Answers (length b) (nextAnswer (length b) (l .decoder) s) s rs
 unfolding callOnce
-prints-lists (a-line l b ps q p) s inv =
+run-answers (a-line l b ps q p) s inv =
     let ev = line-event (answered l b .answer) (unreadCount l b) (length b) q in
     let same = answers l b ps s inv (λ m. absurd (false≢true (sym (ap needsMore (ev .is)) ∙ m))) in
-    rw same (goes-on (answered l b) s (ev .is) (prints-lists p (drop (answered l b .taken) s) (inv-line l b ps s inv)))
-prints-lists (the-last l b ps q) s inv =
+    rw same (goes-on (answered l b) s (ev .is) (run-answers p (drop (answered l b .taken) s) (inv-line l b ps s inv)))
+run-answers (the-last l b ps q) s inv =
     let full : needsMore (answered l b .answer) ≡ true → length b ≡ length (unread l b) =
     λ m. let h = last-full (answered l b .answer) (unreadCount l b) (length b) q m in omega (arith, length-unread l b, unread-fits l b) in
     rw (answers l b ps s inv full) (ends (answered l b) s (last-no-event (answered l b .answer) (unreadCount l b) (length b) q))
-prints-lists (a-read l b ps q p) s inv = read-case l b ps s inv q (λ i. prints-lists p s i)
+run-answers (a-read l b ps q p) s inv = read-case l b ps s inv q (λ i. run-answers p s i)
 
 at-start : (size : ℕ) (ps : List (List ℕ)) → NoneEmpty ps → Octets (joined ps) → length (joined ps) ≤ 2 ^ 62 → Inv started (replicate size 0) ps (joined ps)
 at-start size ps some byte few =
@@ -325,24 +324,39 @@ at-start size ps some byte few =
     nothing-yet : unread started (replicate size 0) ≡ []
     nothing-yet = unread-front fresh [] (replicate size 0) 0 false refl
 
--- from the start: a run with a buffer of so many zero bytes, on an input of at most 2^62 bytes in any pieces, prints
--- the list of the input
+-- from the start: a run with a buffer of so many zero bytes, on an input of at most 2^62 bytes in any pieces, has the
+-- answers to the input
+pub runs-through : (size : ℕ) (ps : List (List ℕ)) {rs : List Answered} → NoneEmpty ps → Octets (joined ps) → length (joined ps) ≤ 2 ^ 62
+    → Runs started (replicate size 0) ps rs → AnswersTo size (joined ps) rs
+runs-through size ps some byte few run = rw (length-replicate {A = ℕ} size 0) at (run-answers run (joined ps) (at-start size ps some byte few))
+
+-- so it prints the list of the input
 pub prints-the-list : (size : ℕ) (ps : List (List ℕ)) {text : List ℕ} → NoneEmpty ps → Octets (joined ps) → length (joined ps) ≤ 2 ^ 62
     → Prints started (replicate size 0) ps text → ListOf size (joined ps) text
-prints-the-list size ps some byte few run = rw (length-replicate {A = ℕ} size 0) at (prints-lists run (joined ps) (at-start size ps some byte few))
+prints-the-list size ps some byte few p = record { answers = p .answers; to = runs-through size ps some byte few (p .run); lines = p .lines }
 
--- an input has one list, so however it is cut a run that comes to its end prints the same
-pub one-list : (size : ℕ) {r : Decoded} {s text other : List ℕ} → Lists size r s text → Lists size r s other → text ≡ other
-one-list size (goes-on r s q p) (goes-on r' s' q' p') = ap (λ (t : List ℕ). line (r' .answer) (r' .state .position) ++ t) (one-list size p p')
-one-list size (goes-on r s q p) (ends r' s' n) = absurd (n _ q)
-one-list size (ends r s n) (goes-on r' s' q p) = absurd (n _ q)
-one-list size (ends r s n) (ends r' s' n') = refl
+-- what is still to come has one run of answers
+pub one-run : (size : ℕ) {r : Decoded} {s : List ℕ} {rs ts : List Answered} → Answers size r s rs → Answers size r s ts → rs ≡ ts
+one-run size (goes-on r s q p) (goes-on r' s' q' p') = ap (λ (rs : List Answered). answeredBy r' ∷ rs) (one-run size p p')
+one-run size (goes-on r s q p) (ends r' s' n) = absurd (n _ q)
+one-run size (ends r s n) (goes-on r' s' q p) = absurd (n _ q)
+one-run size (ends r s n) (ends r' s' n') = refl
 
--- two runs on the same input, however each is cut, print the same
+-- an input has one list
+pub one-list : (size : ℕ) {s text other : List ℕ} → ListOf size s text → ListOf size s other → text ≡ other
+one-list size p q = p .lines ∙ ap linesOf (one-run size (p .to) (q .to)) ∙ sym (q .lines)
+
+-- two runs on the same input, however each is cut, have the same answers
+pub same-answers-however-cut : (size : ℕ) (ps qs : List (List ℕ)) {rs ts : List Answered} → joined ps ≡ joined qs → NoneEmpty ps → NoneEmpty qs → Octets (joined ps)
+    → length (joined ps) ≤ 2 ^ 62 → Runs started (replicate size 0) ps rs → Runs started (replicate size 0) qs ts → rs ≡ ts
+same-answers-however-cut size ps qs e somep someq byte few run run' =
+    one-run size (rw e at (runs-through size ps somep byte few run)) (runs-through size qs someq (rw e at byte) (rw e at few) run')
+
+-- so they print the same
 pub same-however-cut : (size : ℕ) (ps qs : List (List ℕ)) {text other : List ℕ} → joined ps ≡ joined qs → NoneEmpty ps → NoneEmpty qs → Octets (joined ps)
     → length (joined ps) ≤ 2 ^ 62 → Prints started (replicate size 0) ps text → Prints started (replicate size 0) qs other → text ≡ other
-same-however-cut size ps qs e somep someq byte few run run' =
-    one-list size (rw e at (prints-the-list size ps somep byte few run)) (prints-the-list size qs someq (rw e at byte) (rw e at few) run')
+same-however-cut size ps qs e somep someq byte few p q =
+    p .lines ∙ ap linesOf (same-answers-however-cut size ps qs e somep someq byte few (p .run) (q .run)) ∙ sym (q .lines)
 
 -- ---- a run comes to its end
 
@@ -361,6 +375,10 @@ less-by a b c h e = omega arith
 
 one-more : (x : Bool) → x ≡ false → _≡_ {A = ℕ} (cond x 0 1) 1
 one-more x e = rw e
+
+pub record Ended (l : Listing) (b : List ℕ) (ps : List (List ℕ)) : Type 0 where
+  pub answers : List Answered
+  pub run : Runs l b ps answers
 
 pub record Printed (l : Listing) (b : List ℕ) (ps : List (List ℕ)) : Type 0 where
   pub text : List ℕ
@@ -392,7 +410,7 @@ module _ (l : Listing) (b : List ℕ) (ps : List (List ℕ)) (s : List ℕ) (inv
       light
       less
 
-within-steps : (n : ℕ) (l : Listing) (b : List ℕ) (ps : List (List ℕ)) (s : List ℕ) → Inv l b ps s → far l b ps < n → Printed l b ps
+within-steps : (n : ℕ) (l : Listing) (b : List ℕ) (ps : List (List ℕ)) (s : List ℕ) → Inv l b ps s → far l b ps < n → Ended l b ps
 within-steps zero l b ps s inv h = absurd (not-suc-le-zero h)
 within-steps (suc n) l b ps s inv h =
     by (callOnce l b .next) refl
@@ -404,14 +422,20 @@ within-steps (suc n) l b ps s inv h =
     step : {x y : ℕ} → x < y → y < suc n → x < n
     step p q = omega arith
 
-    by : (x : Next) → callOnce l b .next ≡ x → (callOnce l b .next ≡ Line → Printed (callOnce l b .listing) b ps)
-        → (callOnce l b .next ≡ Read → Printed (refilled (unreadMovedToFront (callOnce l b .listing) b) ps .at) (refilled (unreadMovedToFront (callOnce l b .listing) b) ps .buffer) (refilled (unreadMovedToFront (callOnce l b .listing) b) ps .pieces))
-        → Printed l b ps
-    by Line q on again = record { text = line (callOnce l b .answer) (callOnce l b .listing .decoder .position) ++ on q .text; prints = a-line l b ps q (on q .prints) }
-    by Last q on again = record { text = line (callOnce l b .answer) (callOnce l b .listing .decoder .position); prints = the-last l b ps q }
-    by Read q on again = record { text = again q .text; prints = a-read l b ps q (again q .prints) }
+    by : (x : Next) → callOnce l b .next ≡ x → (callOnce l b .next ≡ Line → Ended (callOnce l b .listing) b ps)
+        → (callOnce l b .next ≡ Read → Ended (refilled (unreadMovedToFront (callOnce l b .listing) b) ps .at) (refilled (unreadMovedToFront (callOnce l b .listing) b) ps .buffer) (refilled (unreadMovedToFront (callOnce l b .listing) b) ps .pieces))
+        → Ended l b ps
+    by Line q on again = record { answers = answeredAt l b ∷ on q .answers; run = a-line l b ps q (on q .run) }
+    by Last q on again = record { answers = answeredAt l b ∷ []; run = the-last l b ps q }
+    by Read q on again = record { answers = again q .answers; run = a-read l b ps q (again q .run) }
 
--- every input of at most 2^62 bytes, in any pieces, is listed to its end
+-- every input of at most 2^62 bytes, in any pieces, has a run with a last answer
+pub run-ends : (size : ℕ) (ps : List (List ℕ)) → NoneEmpty ps → Octets (joined ps) → length (joined ps) ≤ 2 ^ 62 → Ended started (replicate size 0) ps
+run-ends size ps some byte few =
+    within-steps (suc (far started (replicate size 0) ps)) started (replicate size 0) ps (joined ps) (at-start size ps some byte few) (omega arith)
+
+-- so it is listed to its end
 pub comes-to-an-end : (size : ℕ) (ps : List (List ℕ)) → NoneEmpty ps → Octets (joined ps) → length (joined ps) ≤ 2 ^ 62 → Printed started (replicate size 0) ps
 comes-to-an-end size ps some byte few =
-    within-steps (suc (far started (replicate size 0) ps)) started (replicate size 0) ps (joined ps) (at-start size ps some byte few) (omega arith)
+    let e = run-ends size ps some byte few in
+    record { text = linesOf (e .answers); prints = record { answers = e .answers; run = e .run; lines = refl } }

@@ -1,12 +1,13 @@
--- A run of the program on an input that comes in pieces: what it prints, step by step. It does what
--- crates/lister/src/main.rt does, with reads that the pieces answer.
+-- A run of the program on an input that comes in pieces: what its calls answer, step by step, and what it prints. It
+-- does what crates/lister/src/main.rt does, with reads that the pieces answer; what another program makes of the same
+-- answers is its own.
 use Prim.Native.Nat.{ℕ, _+_, _-_, _<_}
 use mathlib.Core.Path.{_≡_}
 use mathlib.Core.List.{List, [], _∷_, _++_}
 use lib.IntN.{pos}
 use lib.ListN.{length, take, drop}
-use Rattle.event_list.specs.Line.{line}
 use Rattle.event_list.specs.Reading.{callOnce, unreadMovedToFront, afterRead}
+use Rattle.event_list.specs.Whole.{Answered, linesOf}
 use Rattle.event_list.specs.declared.types.Listing.{Listing}
 use Rattle.event_list.specs.declared.types.Next.the-variants.{Line, Last, Read}
 
@@ -57,12 +58,22 @@ refilled k ps =
       pieces = left (length b - n) ps;
     }
 
--- from a listing, a buffer and the pieces to come, the program prints the text and stops
-pub data Prints : Listing → List ℕ → List (List ℕ) → List ℕ → Type 0 where
-  a-line : (l : Listing) (b : List ℕ) (ps : List (List ℕ)) {text : List ℕ} → callOnce l b .next ≡ Line → Prints (callOnce l b .listing) b ps text
-      → Prints l b ps (line (callOnce l b .answer) (callOnce l b .listing .decoder .position) ++ text)
-  the-last : (l : Listing) (b : List ℕ) (ps : List (List ℕ)) → callOnce l b .next ≡ Last
-      → Prints l b ps (line (callOnce l b .answer) (callOnce l b .listing .decoder .position))
-  a-read : (l : Listing) (b : List ℕ) (ps : List (List ℕ)) {text : List ℕ} → callOnce l b .next ≡ Read
-      → Prints (refilled (unreadMovedToFront (callOnce l b .listing) b) ps .at) (refilled (unreadMovedToFront (callOnce l b .listing) b) ps .buffer) (refilled (unreadMovedToFront (callOnce l b .listing) b) ps .pieces) text
-      → Prints l b ps text
+-- what one call answered, and the record that it left
+abbrev pub answeredAt : Listing → List ℕ → Answered
+answeredAt l b = record { answer = callOnce l b .answer; after = callOnce l b .listing .decoder }
+
+-- from a listing, a buffer and the pieces to come, the program's calls have these answers, and it stops; need more that
+-- leads to a read is none of them
+pub data Runs : Listing → List ℕ → List (List ℕ) → List Answered → Type 0 where
+  a-line : (l : Listing) (b : List ℕ) (ps : List (List ℕ)) {rs : List Answered} → callOnce l b .next ≡ Line → Runs (callOnce l b .listing) b ps rs
+      → Runs l b ps (answeredAt l b ∷ rs)
+  the-last : (l : Listing) (b : List ℕ) (ps : List (List ℕ)) → callOnce l b .next ≡ Last → Runs l b ps (answeredAt l b ∷ [])
+  a-read : (l : Listing) (b : List ℕ) (ps : List (List ℕ)) {rs : List Answered} → callOnce l b .next ≡ Read
+      → Runs (refilled (unreadMovedToFront (callOnce l b .listing) b) ps .at) (refilled (unreadMovedToFront (callOnce l b .listing) b) ps .buffer) (refilled (unreadMovedToFront (callOnce l b .listing) b) ps .pieces) rs
+      → Runs l b ps rs
+
+-- the program prints the text and stops: a line for each of its answers
+pub record Prints (l : Listing) (b : List ℕ) (ps : List (List ℕ)) (text : List ℕ) : Type 0 where
+  pub answers : List Answered
+  pub run : Runs l b ps answers
+  pub lines : text ≡ linesOf answers
