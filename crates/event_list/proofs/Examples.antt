@@ -11,7 +11,8 @@ use Rattle.decoder_rules.proofs.Computing.{rulesCompute}
 use Rattle.basics.specs.Lists.{every}
 use Rattle.event_list.specs.Line as lines
 use Rattle.numerals.specs.Numeral.{digits, places, hex, hex16, decimal, signedDecimal}
-use Rattle.event_list.specs.Computed.{codes, linesOf}
+use Rattle.event_list.specs.Computed.{textLines}
+use Rattle.texts.specs.Ascii.{ascii}
 use Rattle.event_list.specs.Reading.{started, unread, called, callOnce, unreadMovedToFront, afterRead}
 use Rattle.event_list.specs.Run.{Stage, refilled}
 use Rattle.event_list.specs.declared.types.Next.{Next}
@@ -53,15 +54,15 @@ list size pieces = printed 32 (record { at = started; buffer = replicate size 0;
 -- ---- D1
 
 abbrev d1Text : List ℕ
-d1Text = linesOf d1Lines
+d1Text = textLines d1Lines
 
 -- the first lines of it, up to Amount, and then `M 8`
 abbrev tooLarge : List ℕ
-tooLarge = linesOf ("S 4E01 0" ∷ "S A1 3" ∷ "U A2 5 120" ∷ "M 8" ∷ [])
+tooLarge = textLines ("S 4E01 0" ∷ "S A1 3" ∷ "U A2 5 120" ∷ "M 8" ∷ [])
 
 -- the first 8 bytes, cut: D3
 abbrev cutText : List ℕ
-cutText = linesOf ("S 4E01 0" ∷ "S A1 3" ∷ "U A2 5 120" ∷ "X 23 0" ∷ [])
+cutText = textLines ("S 4E01 0" ∷ "S A1 3" ∷ "U A2 5 120" ∷ "X 23 0" ∷ [])
 
 -- every byte a piece of its own
 abbrev pub alone : List ℕ → List (List ℕ)
@@ -83,14 +84,14 @@ examples =
     ∷ (list 16 (take 8 d1 ∷ []), cutText)
     ∷ (list 4 (alone (take 8 d1)), cutText)
     -- the greatest u64, the least i64, and 16 hex digits
-    ∷ (decimal (2 ^ 64 - 1), codes "18446744073709551615")
-    ∷ (signedDecimal (negsuc (2 ^ 63 - 1)), codes "-9223372036854775808")
-    ∷ (decimal 0, codes "0")
-    ∷ (hex 0x4E01, codes "4E01")
-    ∷ (hex16 0xABCDEF, codes "0000000000ABCDEF")
+    ∷ (decimal (2 ^ 64 - 1), ascii "18446744073709551615")
+    ∷ (signedDecimal (negsuc (2 ^ 63 - 1)), ascii "-9223372036854775808")
+    ∷ (decimal 0, ascii "0")
+    ∷ (hex 0x4E01, ascii "4E01")
+    ∷ (hex16 0xABCDEF, ascii "0000000000ABCDEF")
     ∷ []
 
 -- every example prints its list
 pub all-examples : map (λ (p : List ℕ × List ℕ). p .0) examples ≡ map (λ (p : List ℕ × List ℕ). p .1) examples
-unfolding rulesCompute codes linesOf digits places lines.elementText lines.rangeText lines.valueText lines.eventText lines.refusalText lines.positionText lines.answerText lines.line unread called callOnce unreadMovedToFront afterRead refilled printed
+unfolding rulesCompute textLines digits places lines.elementText lines.rangeText lines.valueText lines.eventText lines.refusalText lines.positionText lines.answerText lines.line unread called callOnce unreadMovedToFront afterRead refilled printed
 all-examples = refl

@@ -26,7 +26,7 @@ use Rattle.decoder_rules.specs.declared.types.TagDecoder.{TagDecoder}
 use Rattle.decoder_rules.proofs.Computing.{rulesCompute}
 use Rattle.event_list.specs.Line as lines
 use Rattle.event_list.specs.Whole.{nextAnswer, ListOf}
-use Rattle.event_list.specs.Computed.{codes, linesOf, listedFrom, listed}
+use Rattle.event_list.specs.Computed.{textLines, listedFrom, listed}
 use Rattle.event_list.proofs.Computed.{listed-is-the-list}
 
 -- ---- what a call answers and takes
@@ -127,7 +127,7 @@ lists s = printed (listed 4096 9 s)
 
 -- these lines, and none after them
 abbrev pub prints : List String → Outcome
-prints l = printed (true, linesOf l)
+prints l = printed (true, textLines l)
 
 abbrev pub signed : ℤ → Outcome
 signed z = wrote (asSignedVint z (0 ∷ 0 ∷ []))
@@ -183,10 +183,10 @@ starred =
 
 -- each case gives what document 01 says
 pub all-starred : map (λ (p : Outcome × Outcome). p .0) starred ≡ map (λ (p : Outcome × Outcome). p .1) starred
-unfolding rulesCompute digits places lines.elementText lines.rangeText lines.valueText lines.eventText lines.refusalText lines.positionText lines.answerText lines.line nextAnswer codes linesOf listedFrom
+unfolding rulesCompute digits places lines.elementText lines.rangeText lines.valueText lines.eventText lines.refusalText lines.positionText lines.answerText lines.line nextAnswer textLines listedFrom
 all-starred = refl
 
 -- so what document 01 prints is D1's list by the lister's definition, with its buffer
-pub d1-listed : ListOf 4096 d1 (linesOf d1Lines)
-unfolding rulesCompute digits places lines.elementText lines.rangeText lines.valueText lines.eventText lines.refusalText lines.positionText lines.answerText lines.line nextAnswer codes linesOf listedFrom
+pub d1-listed : ListOf 4096 d1 (textLines d1Lines)
+unfolding rulesCompute digits places lines.elementText lines.rangeText lines.valueText lines.eventText lines.refusalText lines.positionText lines.answerText lines.line nextAnswer textLines listedFrom
 d1-listed = listed-is-the-list 4096 9 d1 refl

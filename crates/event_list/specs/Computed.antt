@@ -1,8 +1,5 @@
--- The list of a whole input, computed; and text as the numbers of its characters, so that a list can be written down as
--- it is printed.
+-- The list of a whole input, computed; and lines of text, so that a list can be written down as it is printed.
 use Prim.Native.Nat.{ℕ, zero, suc}
-use Prim.Native.Char.{Char, code}
-use Prim.Native.String as string
 use Prim.Native.String.{String}
 use mathlib.Core.Bool.{Bool, true, false}
 use mathlib.Core.List.{List, [], _∷_, _++_}
@@ -12,18 +9,14 @@ use Rattle.decoder_rules.specs.declared.types.Answer.{Answer}
 use Rattle.decoder_rules.specs.declared.types.Answer.the-variants as answer
 use Rattle.decoder_rules.specs.declared.types.Decoded.{Decoded}
 use Rattle.decoder_rules.specs.declared.types.TagDecoder.{TagDecoder}
+use Rattle.texts.specs.Ascii.{ascii}
 use Rattle.event_list.specs.Line.{line}
 use Rattle.event_list.specs.Whole.{nextAnswer}
 
--- the numbers of a text's characters
-unfoldable pub codes : String → List ℕ
-codes string.[] = []
-codes (string._∷_ c s) = code c ∷ codes s
-
 -- lines of text, a newline after each
-unfoldable pub linesOf : List String → List ℕ
-linesOf [] = []
-linesOf (s ∷ l) = codes s ++ (10 ∷ linesOf l)
+unfoldable pub textLines : List String → List ℕ
+textLines [] = []
+textLines (s ∷ l) = ascii s ++ (10 ∷ textLines l)
 
 -- a line, and behind an event's the list of what follows it: whether it comes to an end, and its text
 abbrev pub withOthers : Answer → List ℕ → (Unit {0} → Bool × List ℕ) → Bool × List ℕ
