@@ -1,0 +1,4 @@
+pub mod Showing
+pub mod Eighths
+pub mod Keeping
+pub mod Unique
