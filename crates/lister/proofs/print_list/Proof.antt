@@ -1,19 +1,22 @@
--- `lister::list` is safe and ends. The invariant: the buffer keeps its length. The measure is the number of steps that
--- are left. Assumes nothing.
+-- `lister::print_list` is safe and ends. The invariant: the buffer keeps its length. The measure is the number of steps
+-- that are left. Assumes nothing.
 use mathlib.Core.Path.{_≡_}
 use lib.ListN.{length}
 use borrow.Author.Needs.{needs}
-use Rattle.lister.proofs.list.Statement.{statement}
-use Rattle.lister.proofs.list.Tie as tie
+use Rattle.lister.proofs.print_list.Statement.{statement}
+use Rattle.lister.proofs.print_list.Tie as tie
 
 abbrev Inv-loop : tie.InvT-loop
-Inv-loop buffer₀ listing₀ steps-left₀ buffer listing steps-left = length buffer ≡ length buffer₀
+Inv-loop list buffer₀ listing₀ seen₀ steps-left₀ buffer listing seen steps-left = length buffer ≡ length buffer₀
 
 abbrev μ-loop : tie.MeasureT-loop
-μ-loop buffer₀ listing₀ steps-left₀ buffer listing steps-left = steps-left
+μ-loop list buffer₀ listing₀ seen₀ steps-left₀ buffer listing seen steps-left = steps-left
 
 start-requires : tie.Need-start-requires Inv-loop μ-loop
 start-requires c κs = search needs
+
+nothing-seen-requires : tie.Need-nothing-seen-requires Inv-loop μ-loop
+nothing-seen-requires c κs = search needs
 
 loop-holds : tie.Need-loop-holds Inv-loop μ-loop
 loop-holds c = search needs
@@ -42,13 +45,14 @@ same-length-2 c = search needs
 returns-2 : tie.Need-returns-2 Inv-loop μ-loop
 returns-2 c = search needs
 
-pub list-spec : {M : Type 1} → statement M
-list-spec =
+pub print-list-spec : {M : Type 1} → statement M
+print-list-spec =
     tie.close
     (tie.spec
     Inv-loop
     μ-loop
     start-requires
+    nothing-seen-requires
     loop-holds
     step-requires
     same-length
