@@ -23,7 +23,7 @@ use Rattle.numerals.proofs.put_signed.Reads as put-signed
 use Rattle.numerals.proofs.put_signed.Kinds as put-signed-kinds
 
 -- what `Puts` fixes, as a pair
-put-there : {most r at : ℕ} {o o₀ s : List ℕ} → Puts most r o o₀ at s → _≡_ {A = ℕ × List ℕ} (r, o) (at + length s, sets o₀ at s)
+pub put-there : {most r at : ℕ} {o o₀ s : List ℕ} → Puts most r o o₀ at s → _≡_ {A = ℕ × List ℕ} (r, o) (at + length s, sets o₀ at s)
 put-there p = ap₂ (λ r o. (r, o)) (p .place) (p .bytes)
 
 pub put-one : (κs : Lfts 1) (a : Dens κs put-kinds.ps) → OneAnswer (put.Post κs a) (answerAnd (λ e. now (e .1 .0)))
