@@ -1,11 +1,12 @@
-# run-program.sh: what ebml-list and ebml-check share. A script that sources it has set `name`, its own name, and `here`,
-# the repository's folder, and calls
-#   fail WORDS                says why there is no answer, and exits with 2
-#   version                   prints the project's version and the toolchain's identity
-#   read_from FILE            has FILE as standard input; `-` or nothing is standard input as it is
-#   build PROGRAM             has the toolchain prove and build a program, unless it is built and no crate has changed
-#   run_program PROGRAM WORDS runs it, and exits with the status that it tells on descriptor 3, a digit; with 2 where it
-#                             tells none
+# run-program.sh: what the commands share. A script that sources it has set `name`, its own name, and `here`, the
+# repository's folder, and calls
+#   fail WORDS                    says why there is no answer, and exits with 2
+#   version                       prints the project's version and the toolchain's identity
+#   read_from FILE                has FILE as standard input; `-` or nothing is standard input as it is
+#   build PROGRAM                 has a program proved and built, unless it is built and no crate has changed
+#   start_program PROGRAM WORDS   runs it
+#   run_program PROGRAM WORDS     runs it, and exits with the status that it tells on descriptor 3, a digit; with 2
+#                                 where it tells none
 # Without the toolchain in PATH a program that is built still runs: target/PROGRAM.built says where its C library is.
 
 fail() { printf '%s: %s\n' "$name" "$*" >&2; exit 2; }
@@ -23,7 +24,7 @@ version() {
 
 read_from() {
     case ${1--} in
-    -) [ ! -t 0 ] || printf '%s: reads a record from standard input, which is a terminal; --help says more\n' "$name" >&2 ;;
+    -) [ ! -t 0 ] || echo "$name: reads a record from standard input, which is a terminal; --help says more" >&2 ;;
     *)
         [ -e "$1" ] || fail "there is no file $1"
         [ ! -d "$1" ] || fail "$1 is a folder"
@@ -65,20 +66,26 @@ said_by_rt() {
 }
 
 # a program of the toolchain is for x86-64; on another processor the toolchain has an emulator beside its compiler
-run_program() {
+start_program() {
     tools=$(cat "$here/target/$1.built")
     program=$here/target/bin/$1
     shift
     set -- "$tools/lib/ld-linux-x86-64.so.2" --library-path "$tools/lib" "$program" "$@"
     [ -x "$1" ] || fail "the toolchain that built the program is gone: there is no $1"
     if [ -x "$tools/bin/qemu-x86_64" ]; then set -- "$tools/bin/qemu-x86_64" "$@"; fi
+    "$@"
+}
+
+run_program() {
     ended=0
     exec 4>&1
-    told=$("$@" 3>&1 >&4 4>&-) || ended=$?
-    case $told in
-    0 | 1 | 2) exit "$told" ;;
-    esac
+    told=$(start_program "$@" 3>&1 >&4 4>&-) || ended=$?
+    case $told$ended in
+    00 | 10 | 20) exit "$told" ;;
+    # it was said already why there is none
+    2) exit 2 ;;
     # whoever read the output has gone, which the system says by a signal: no words are wanted
-    [ "$ended" = 141 ] || printf '%s: the program broke off, with status %s\n' "$name" "$ended" >&2
-    exit 2
+    141) exit 2 ;;
+    esac
+    fail "the program $1 broke off, with status $ended"
 }
