@@ -2,7 +2,7 @@
 use Prim.Native.Nat.{ℕ}
 use Prim.Native.String.{String}
 use mathlib.Core.Path.{_≡_, refl}
-use mathlib.Core.List.{List, [], _∷_, _++_, map}
+use mathlib.Core.List.{List, [], _∷_, map}
 use lib.ListN.{take}
 use Rattle.decoder_rules.proofs.Computing.{rulesCompute}
 use Rattle.table.specs.BenchTable.{benchEntries, benchParts}

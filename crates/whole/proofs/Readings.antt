@@ -3,14 +3,14 @@
 -- element is larger than its buffer. Assumes nothing.
 use Prim.Native.Nat.{ℕ, zero, suc, _+_, _-_, _*_, _^_, _≤_, _<_}
 use mathlib.Core.Path.{_≡_, refl, sym, ap, subst, _∙_}
-use mathlib.Core.Bool.{Bool, true, false, cond, not, _&&_, false≢true, true≢false}
+use mathlib.Core.Bool.{Bool, true, false, cond, not, _&&_, false≢true}
 use mathlib.Core.List.{List, [], _∷_, _++_}
 use mathlib.Core.Logic.{_⊎_, inl, inr}
 use native.Mathlib.Omega.{arith}
 use native.Mathlib.Nat.{not-suc-le-zero}
 use native.Mathlib.Decide.{decLe}
 use borrow.Author.Tests.{lt-ltb, le-ltb, eqb-true}
-use lib.Dec.{ltb, eqb}
+use lib.Dec.{eqb}
 use lib.ListN.{length, take, drop, length-drop, take-append-drop}
 use Rattle.basics.proofs.Bools.{both}
 use Rattle.tools.specs.Bytes.{Octets}
@@ -46,12 +46,12 @@ module _ (es ps : List ℕ) (n : ℕ) (d : TagDecoder) (s : List ℕ) where
   R = decodeEof es ps d s
 
   -- after an event come the answers to what is left
-  read-on : isEvent (R .answer) ≡ true → readFrom es ps (suc n) d s ≡ answeredBy R ∷ readFrom es ps n (R .state) (drop (R .taken) s)
+  pub read-on : isEvent (R .answer) ≡ true → readFrom es ps (suc n) d s ≡ answeredBy R ∷ readFrom es ps n (R .state) (drop (R .taken) s)
   unfolding readFrom
   read-on e = rw e
 
   -- any other answer is the last
-  read-last : isEvent (R .answer) ≡ false → readFrom es ps (suc n) d s ≡ answeredBy R ∷ []
+  pub read-last : isEvent (R .answer) ≡ false → readFrom es ps (suc n) d s ≡ answeredBy R ∷ []
   unfolding readFrom
   read-last e = rw e
 

@@ -1,8 +1,8 @@
 -- One call at the end of input, on a table that the table check passes: what it changes of the number of masters that are
 -- open or wait for their End, that a Start takes bytes, and when it answers the finish. Assumes nothing.
-use Prim.Native.Nat.{ℕ, _+_, _-_, _≤_, _<_}
+use Prim.Native.Nat.{ℕ, _+_, _<_}
 use mathlib.Core.Path.{_≡_, refl, sym, ap, _∙_}
-use mathlib.Core.Bool.{Bool, true, false, not, cond, _&&_, _||_, false≢true, true≢false}
+use mathlib.Core.Bool.{Bool, true, false, _||_, false≢true, true≢false}
 use mathlib.Core.List.{List}
 use mathlib.Core.Logic.{_⊎_, inl, inr}
 use native.Mathlib.Omega.{arith}
@@ -19,9 +19,9 @@ use Rattle.table.proofs.Passed.{passed-gives}
 use Rattle.tag_parse.specs.declared.types.TagHeader.{TagHeader}
 use Rattle.tag_parse.proofs.Headers.{header-sound, header-spec}
 use Rattle.decoder_rules.specs.Record.{withOpen, withWaiting, withNotes, opened, closedTo, handedOut}
-use Rattle.decoder_rules.specs.OneCall.{settles, step7, isSettle, noted}
+use Rattle.decoder_rules.specs.OneCall.{step7, isSettle, noted}
 use Rattle.decoder_rules.specs.Deciding.{decide}
-use Rattle.decoder_rules.specs.Moving.{move, apply, decode}
+use Rattle.decoder_rules.specs.Moving.{move, apply}
 use Rattle.decoder_rules.specs.EndOfInput.{decodeEof}
 use Rattle.decoder_rules.specs.declared.types.Action.{Action}
 use Rattle.decoder_rules.specs.declared.types.Answer.{Answer}

@@ -1,6 +1,6 @@
 -- What the check keeps of the answers to an input is what they show, and its verdict is WHOLE just where they show a
 -- whole night with one record. Assumes nothing.
-use Prim.Native.Nat.{ℕ, zero, suc, _+_, _-_, _^_, _≤_, _<_, min}
+use Prim.Native.Nat.{ℕ, _+_, _-_, _^_, _≤_, _<_, min}
 use mathlib.Core.Path.{_≡_, refl, sym, ap, _∙_}
 use mathlib.Core.Bool.{Bool, true, false, cond, _&&_, false≢true, true≢false}
 use mathlib.Core.List.{List, [], _∷_}
@@ -9,16 +9,14 @@ use native.Mathlib.Decide.{decLt}
 use borrow.Author.Tests.{lt-ltb, le-ltb, eq-eqb, eqb-true}
 use lib.Dec.{ltb, eqb}
 use Rattle.basics.proofs.Bools.{absurd-eq}
-use Rattle.decoder_rules.specs.Numbers.{errorNumber}
 use Rattle.decoder_rules.specs.declared.types.Answer.{Answer}
 use Rattle.decoder_rules.specs.declared.types.Answer.the-variants as answer
 use Rattle.decoder_rules.specs.declared.types.DecodeError.{DecodeError}
 use Rattle.decoder_rules.specs.declared.types.DecodeError.the-variants as error
-use Rattle.decoder_rules.specs.declared.types.Event.{Event}
 use Rattle.decoder_rules.specs.declared.types.Event.the-variants as event
 use Rattle.decoder_rules.specs.declared.types.TagDecoder.{TagDecoder}
 use Rattle.event_list.specs.Whole.{Answered}
-use Rattle.whole.specs.Checking.{atStart, countedIf, topIsSized, seenAfter, refusedAs, finishedAs, ifFront, verdictAt, verdictAfter, verdictOf}
+use Rattle.whole.specs.Checking.{atStart, countedIf, seenAfter, refusedAs, finishedAs, ifFront, verdictAt, verdictAfter, verdictOf}
 use Rattle.whole.specs.Night.{isEvent, isRootAt0, hasFront, hasSize, allSized, isFinish, finishes, isRecord, records, isFeed, feeds}
 use Rattle.whole.specs.declared.types.Seen.{Seen}
 use Rattle.whole.specs.declared.types.Verdict.{Verdict}

@@ -1,7 +1,7 @@
 -- The check, over any run of the program with a buffer of so many zero bytes, on an input of at most 2^62 bytes that
 -- comes in any pieces: what it calls WHOLE is a whole night with one record, and it calls such a night so where no
 -- element is larger than the buffer; how the input is cut into pieces changes no verdict. Assumes nothing.
-use Prim.Native.Nat.{ℕ, _+_, _-_, _*_, _^_, _≤_, _<_, min}
+use Prim.Native.Nat.{ℕ, _+_, _*_, _^_, _≤_, _<_, min}
 use mathlib.Core.Path.{_≡_, refl, sym, ap, subst, _∙_}
 use mathlib.Core.Bool.{true, false, false≢true}
 use mathlib.Core.List.{List, [], _∷_}
@@ -15,7 +15,6 @@ use Rattle.decoder_rules.specs.declared.types.Answer.{Answer}
 use Rattle.decoder_rules.specs.declared.types.Answer.the-variants as answer
 use Rattle.decoder_rules.specs.declared.types.Decoded.{Decoded}
 use Rattle.decoder_rules.specs.declared.types.Event.the-variants as event
-use Rattle.decoder_rules.specs.declared.types.TagDecoder.{TagDecoder}
 use Rattle.event_list.specs.Reading.{started}
 use Rattle.event_list.specs.Run.{joined, NoneEmpty, Runs}
 use Rattle.event_list.specs.Whole.{Answered, answeredBy, Answers, goes-on, ends, AnswersTo}

@@ -9,7 +9,6 @@ use Rattle.spec_util.specs.declared.types.OpenTag.{OpenTag}
 use Rattle.decoder_rules.specs.Numbers.{errorNumber}
 use Rattle.decoder_rules.specs.declared.types.Answer.{Answer}
 use Rattle.decoder_rules.specs.declared.types.Answer.the-variants as answer
-use Rattle.decoder_rules.specs.declared.types.Cut.{Cut}
 use Rattle.decoder_rules.specs.declared.types.DecodeError.{DecodeError}
 use Rattle.decoder_rules.specs.declared.types.DecodeError.the-variants as error
 use Rattle.decoder_rules.specs.declared.types.Event.the-variants as event

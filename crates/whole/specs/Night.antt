@@ -10,7 +10,6 @@ use Rattle.decoder_rules.specs.Moving.{needsMore}
 use Rattle.decoder_rules.specs.EndOfInput.{decodeEof}
 use Rattle.decoder_rules.specs.declared.types.Answer.{Answer}
 use Rattle.decoder_rules.specs.declared.types.Answer.the-variants as answer
-use Rattle.decoder_rules.specs.declared.types.Event.{Event}
 use Rattle.decoder_rules.specs.declared.types.Event.the-variants as event
 use Rattle.decoder_rules.specs.declared.types.TagDecoder.{TagDecoder}
 use Rattle.event_list.specs.Whole.{Answered, answeredBy}
