@@ -1,7 +1,9 @@
+pub mod CutLists
 pub mod Examples
 pub mod Prefixes
 pub mod Readings
 pub mod Roots
+pub mod Status
 pub mod Turns
 pub mod Unique
 pub mod Verdicts
