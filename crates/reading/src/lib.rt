@@ -2,14 +2,31 @@
 // them is in functions on slices.
 
 ghost use lib.ListN.{length};
-ghost use Rattle.libc.specs.Io.{Moved};
+ghost use Rattle.libc.specs.Io.{Moved, Status};
 use libc::EAGAIN;
 use libc::EINTR;
 use libc::STDIN_FILENO;
+use libc::types::timespec;
 
-// Lets others run for a while.
+// A pause is a thousandth of a second, in nanoseconds.
+const PAUSE: i64 = 1_000_000;
+
+// Sleeps for this time, or until a signal comes: 0, or -1.
+fn sleep_for(asked: timespec) -> i32
+    ensures { λ r. ⌜ Status r ⌝ }
+{
+    let time = asked;
+    let mut left = asked;
+    libc::nanosleep(&time, &mut left)
+}
+
+// A pause.
 fn pause() {
-    libc::sched_yield();
+    let asked = timespec {
+        tv_sec: 0,
+        tv_nsec: PAUSE,
+    };
+    sleep_for(asked);
 }
 
 // Whether a read that failed with this error is made again: one that a signal interrupted, at once, and one of an input
