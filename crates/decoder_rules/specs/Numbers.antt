@@ -2,8 +2,12 @@
 use Prim.Native.Nat.{ℕ}
 use Rattle.tag_parse.specs.declared.types.ParseError.{ParseError}
 use Rattle.tag_parse.specs.declared.types.ParseError.the-variants as parse
+use Rattle.decoder_rules.specs.declared.types.Answer.{Answer}
+use Rattle.decoder_rules.specs.declared.types.Answer.the-variants as answer
 use Rattle.decoder_rules.specs.declared.types.DecodeError.{DecodeError}
 use Rattle.decoder_rules.specs.declared.types.DecodeError.the-variants as error
+use Rattle.decoder_rules.specs.declared.types.Search.{Search}
+use Rattle.decoder_rules.specs.declared.types.Search.the-variants as search
 
 -- the number of a refusal
 abbrev pub errorNumber : DecodeError → ℕ
@@ -29,3 +33,16 @@ parseError parse.InvalidTagData = error.InvalidTagData
 parseError parse.FromUtf8Error = error.FromUtf8Error
 parseError parse.ReadF64Mismatch = error.ReadF64Mismatch
 parseError parse.ReadIntegerOverflow = error.ReadIntegerOverflow
+
+-- the number of the refusal in an answer; 0 for any other answer
+abbrev pub answerRefusal : Answer → ℕ
+answerRefusal (answer.Event e) = 0
+answerRefusal answer.NeedMore = 0
+answerRefusal answer.Finished = 0
+answerRefusal (answer.Refused r) = errorNumber (r .error)
+
+-- the same of what a recovery answers
+abbrev pub searchRefusal : Search → ℕ
+searchRefusal search.Found = 0
+searchRefusal search.NotFound = 0
+searchRefusal (search.Refused r) = errorNumber (r .error)

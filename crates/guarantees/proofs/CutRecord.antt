@@ -12,6 +12,7 @@ use lib.ListN.{length, take, drop}
 use Rattle.tools.specs.Bytes.{Octets}
 use Rattle.basics.specs.Lists.{every}
 use Rattle.table.specs.Table.{tableOf}
+use Rattle.decoder_rules.specs.Numbers.{answerRefusal}
 use Rattle.decoder_rules.specs.EndOfInput.{decodeEof}
 use Rattle.decoder_rules.specs.declared.types.Answer.{Answer}
 use Rattle.decoder_rules.specs.declared.types.Answer.the-variants as answer
@@ -24,7 +25,7 @@ use Rattle.decoder_rules.specs.declared.types.WaitingEnd.{WaitingEnd}
 use Rattle.basics.proofs.Bools.{both, and-both}
 use Rattle.basics.proofs.Every.{every-append, every-take}
 use Rattle.tag_decoder.proofs.CallLaws.{eof-facts}
-use Rattle.guarantees.specs.Calls.{Call, ending, Response, answered, next, recordAfter, history, Lent, answerRefusal}
+use Rattle.guarantees.specs.Calls.{Call, ending, Response, answered, next, recordAfter, history, Lent}
 use Rattle.guarantees.specs.History.{Started, afterAnswer, firstEnd, outermostEnd, startsOpen, position, childTestNeverOff}
 use Rattle.guarantees.specs.Promises.{Runs, lastResponse, Answers, openAt, leftAt, positionAt, NotFull, EndOr23, endingAgain, atTheEnd}
 use Rattle.guarantees.proofs.Ends.{endedBy}

@@ -4,12 +4,13 @@ use Prim.Native.Nat.{ℕ}
 use mathlib.Core.Path.{_≡_, refl}
 use mathlib.Core.List.{List, [], _∷_}
 use lib.ListN.{take, drop}
+use Rattle.decoder_rules.specs.Numbers.{answerRefusal}
 use Rattle.guarantees.proofs.Computing.{historyComputes}
 use Rattle.table.specs.Table.{Entry, tableOf}
 use Rattle.decoder_rules.specs.EndOfInput.{finish}
 use Rattle.decoder_rules.specs.declared.types.Optional.the-variants.{Nothing, Number}
 use Rattle.table.specs.BenchTable.{benchEntries, benchParts}
-use Rattle.guarantees.specs.Calls.{Call, decoding, ending, recovering, history, answerRefusal}
+use Rattle.guarantees.specs.Calls.{Call, decoding, ending, recovering, history}
 use Rattle.guarantees.specs.History.{Started, startsOpen, parentsLeft, position}
 use Rattle.guarantees.specs.Promises.{atTheEnd}
 

@@ -16,7 +16,7 @@ use Rattle.tag_parse.specs.declared.types.ReadHeader.{ReadHeader}
 use Rattle.tag_parse.specs.declared.types.ReadHeader.the-variants as header
 use Rattle.tag_parse.specs.declared.types.TagHeader.{TagHeader}
 use Rattle.decoder_rules.specs.Record.{withSettings}
-use Rattle.decoder_rules.specs.Numbers.{errorNumber, parseError}
+use Rattle.decoder_rules.specs.Numbers.{errorNumber, parseError, answerRefusal}
 use Rattle.decoder_rules.specs.OneCall.{checkRecord10to12, step6, step7, isSettle, noted}
 use Rattle.decoder_rules.specs.Deciding.{decide}
 use Rattle.decoder_rules.specs.Moving.{move, apply, decode}
@@ -46,7 +46,7 @@ use Rattle.decoder_rules.proofs.EndExits as end
 use Rattle.decoder_rules.proofs.EndExits.{EndExit, end-keeps, EofExit, isQuiet, eof-exits}
 use Rattle.decoder_rules.proofs.MoveLaws.{withNote, noted-position, noted-settled, decode-settled}
 use Rattle.basics.proofs.Bools.{pick, or-none}
-use Rattle.guarantees.specs.Calls.{Call, decoding, ending as at-end, recovering, allow, limit, lent, searched, responseTo, next, answerRefusal}
+use Rattle.guarantees.specs.Calls.{Call, decoding, ending as at-end, recovering, allow, limit, lent, searched, responseTo, next}
 use Rattle.guarantees.specs.Settling.{orElse, settleHeader, settleAt, settleWithin, comesUnread, searchNote, seenNote}
 use Rattle.guarantees.proofs.Notes.{readNote, placeNote, Way, no-byte, ends-here, goes-on, way, gone-position, gone-settled, way-later, searchNoteOr, noteOf}
 use Rattle.guarantees.proofs.Decided.{only-far}

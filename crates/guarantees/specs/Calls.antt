@@ -5,7 +5,7 @@ use mathlib.Core.Bool.{Bool}
 use mathlib.Core.List.{List, [], _∷_}
 use Rattle.tools.specs.Bytes.{Octets}
 use Rattle.decoder_rules.specs.Record.{fresh}
-use Rattle.decoder_rules.specs.Numbers.{errorNumber}
+use Rattle.decoder_rules.specs.Numbers.{answerRefusal, searchRefusal}
 use Rattle.decoder_rules.specs.Moving.{decode}
 use Rattle.decoder_rules.specs.EndOfInput.{decodeEof}
 use Rattle.decoder_rules.specs.Recovery.{tryRecover}
@@ -58,19 +58,6 @@ module _ (es ps : List ℕ) where
   next d (recovering s) = tryRecover es ps d s .state
   next d (allow ids hierarchy oversized) = allowing d ids hierarchy oversized
   next d (limit n) = limitedTo d n
-
--- the number of the refusal in an answer; 0 for any other answer
-abbrev pub answerRefusal : Answer → ℕ
-answerRefusal (answer.Event e) = 0
-answerRefusal answer.NeedMore = 0
-answerRefusal answer.Finished = 0
-answerRefusal (answer.Refused r) = errorNumber (r .error)
-
--- the same of what a recovery answers
-abbrev pub searchRefusal : Search → ℕ
-searchRefusal search.Found = 0
-searchRefusal search.NotFound = 0
-searchRefusal (search.Refused r) = errorNumber (r .error)
 
 -- the same of what any call answers
 abbrev pub refusalOf : Response → ℕ

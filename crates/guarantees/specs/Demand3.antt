@@ -10,6 +10,7 @@ use mathlib.Core.List.{List, [], _∷_}
 use lib.ListN.{length}
 use Rattle.table.specs.Table.{tableOf, dataTypeOf}
 use Rattle.tag_parse.specs.declared.types.TagValue.{TagValue}
+use Rattle.decoder_rules.specs.Numbers.{answerRefusal}
 use Rattle.decoder_rules.specs.Settings.{isFinished}
 use Rattle.decoder_rules.specs.declared.types.Answer.the-variants.{Event, Finished}
 use Rattle.decoder_rules.specs.declared.types.Event.{Event as AnEvent}
@@ -17,7 +18,7 @@ use Rattle.decoder_rules.specs.declared.types.Event.the-variants.{Start, End, D
 use Rattle.decoder_rules.specs.declared.types.Optional.the-variants.{Number}
 use Rattle.decoder_rules.specs.declared.types.TagDecoder.{TagDecoder}
 use Rattle.decoder_rules.specs.declared.types.WaitingEnd.{WaitingEnd}
-use Rattle.guarantees.specs.Calls.{Call, ending, lent, answered, Step, recordAfter, history, Lent, answerRefusal, refusalOf}
+use Rattle.guarantees.specs.Calls.{Call, ending, lent, answered, Step, recordAfter, history, Lent, refusalOf}
 use Rattle.guarantees.specs.Settling.{seenParents}
 use Rattle.guarantees.specs.History.{declaredEnd, startsDeclared, parentsLeft, childTestNeverOff, neverRecovered}
 use Rattle.guarantees.specs.Promises.{eventKind, eventId, elementOffset, lastResponse, Answers, openAt, leftAt, positionAt, HeaderOf, HeaderAlone, WholeData, onlyLoose, EndMatches, EndsInside, NotFull, EndOr23, endingAgain, atTheEnd}

@@ -11,13 +11,14 @@ use Rattle.spec_util.specs.declared.types.OpenTag.{OpenTag}
 use Rattle.tag_parse.specs.Header.{readHeader}
 use Rattle.tag_parse.specs.declared.types.ReadHeader.{ReadHeader}
 use Rattle.tag_parse.specs.declared.types.ReadHeader.the-variants as header
+use Rattle.decoder_rules.specs.Numbers.{answerRefusal}
 use Rattle.decoder_rules.specs.Record.{implied}
 use Rattle.decoder_rules.specs.OneCall.{isSettle}
 use Rattle.decoder_rules.specs.declared.types.Note.{Note}
 use Rattle.decoder_rules.specs.declared.types.Note.the-variants.{NoNote, Settle}
 use Rattle.decoder_rules.specs.declared.types.Search.{Search}
 use Rattle.decoder_rules.specs.declared.types.Search.the-variants as search
-use Rattle.guarantees.specs.Calls.{lent, Response, answered, searched, silent, answerRefusal, Step}
+use Rattle.guarantees.specs.Calls.{lent, Response, answered, searched, silent, Step}
 
 -- the parents that a note implies: of a settling note the IDs of its path, the innermost first
 unfoldable pub impliedBy : List ℕ → Note → List ℕ
