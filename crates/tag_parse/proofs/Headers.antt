@@ -33,7 +33,7 @@ use Rattle.tag_parse.proofs.Cases.{id-front, octets-drop}
 use Rattle.tag_parse.proofs.Ids.{id-sound, id-complete, id-needs-more, id-local}
 
 -- the header that a size of v in L octets makes, where it is not too long for its type
-made : (x n v L : ℕ) (spec : Spec) (h : TagHeader) → sizedBy x spec n v L ≡ header.Header h → (headerOf x spec n v L ≡ h) × (tooLong (spec .kind) v ≡ false)
+pub made : (x n v L : ℕ) (spec : Spec) (h : TagHeader) → sizedBy x spec n v L ≡ header.Header h → (headerOf x spec n v L ≡ h) × (tooLong (spec .kind) v ≡ false)
 unfolding sizedBy
 made x n v L spec h e = go (tooLong (spec .kind) v) refl
   where
