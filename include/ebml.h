@@ -194,7 +194,6 @@ static inline const char *ebml_refusal_text(int number)
     case 19: return "more than 32 masters open";
     case 20: return "text that is not UTF-8";
     case 21: return "a float that is not of 0, 4 or 8 bytes";
-    case 22: return "an integer of over 8 bytes in an element";
     case 23: return "the input ended inside an element";
     case 24: return "the table closes an element that is no master";
     case 31: return "the table has an ID that no vint has";

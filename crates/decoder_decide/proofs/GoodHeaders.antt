@@ -15,12 +15,13 @@ use Rattle.tag_parse.specs.declared.types.EBMLSize.the-variants.{Known, Unknown
 use Rattle.tag_parse.specs.declared.types.ReadHeader.the-variants as header
 use Rattle.tag_parse.specs.declared.types.TagHeader.{TagHeader}
 use Rattle.tag_parse.proofs.Headers.{header-sound, header-short, known-small}
+use Rattle.tag_parse.proofs.NumberSizes.{number-size, integer-is-number}
 use Rattle.decoder_rules.specs.OneCall.{step7}
 use Rattle.decoder_rules.specs.declared.types.Note.the-variants.{NoNote, Settle}
 use Rattle.decoder_rules.specs.declared.types.TagDecoder.{TagDecoder}
 use Rattle.decoder_rules.specs.Record.{sizeLimit}
 use Rattle.decoder_rules.proofs.HeaderPath.{path-read, path-few}
-use Rattle.decoder_decide.specs.Bounds.{SmallSize}
+use Rattle.decoder_decide.specs.Bounds.{SmallSize, FitsKind}
 use Rattle.decoder_decide.specs.Parts.{doesSettle, settlingNote, knownSize}
 use Rattle.decoder_decide.specs.GoodViews.{GoodHeader}
 
@@ -36,11 +37,15 @@ pub good-header : (es ps s : List ℕ) (h : TagHeader) → goodShape es ps ≡ t
 good-header es ps s h shape byte e =
     let t = tableOf es ps in
     let i = header-sound t s h byte e in
-    record { short = header-short i; small = small (h .size) refl; path = path-read es ps s h e; few = path-few es ps s h e shape }
+    record { short = header-short i; small = small (h .size) refl; fits = fits (h .size) refl; path = path-read es ps s h e; few = path-few es ps s h e shape }
   where
     small : (z : EBMLSize) → h .size ≡ z → knownSize z < sizeLimit
     small Unknown q = omega arith
     small (Known m) q = known-small m (header-sound (tableOf es ps) s h byte e) q
+
+    fits : (z : EBMLSize) → h .size ≡ z → FitsKind (h .kind) z
+    fits Unknown q = tt
+    fits (Known m) q = λ k. number-size (tableOf es ps) s h m e (integer-is-number (h .kind) k) q
 
 -- ---- the note
 

@@ -13,7 +13,7 @@ use Rattle.spec_util.specs.Walk.{mostOpen}
 use Rattle.decoder_rules.specs.Record.{farthest, sizeLimit}
 use Rattle.decoder_rules.specs.declared.types.TagDecoder.{TagDecoder}
 use Rattle.decoder_look.specs.Summary.{unbounded, headerView}
-use Rattle.decoder_decide.specs.Bounds.{longestHeader}
+use Rattle.decoder_decide.specs.Bounds.{longestHeader, FitsKind}
 use Rattle.decoder_decide.specs.Parts.{knownSize}
 use Rattle.decoder_look.specs.declared.summary.Summary.{Summary}
 use Rattle.decoder_look.specs.declared.summary.HeaderView.{HeaderView}
@@ -51,6 +51,7 @@ ForSettled s P = (d : TagDecoder) → s ≡ headerView d → P d
 pub record GoodHeader (es ps : List ℕ) (h : TagHeader) : Type 0 where
   pub short : h .len ≤ longestHeader
   pub small : knownSize (h .size) < sizeLimit
+  pub fits : FitsKind (h .kind) (h .size)
   pub path : partsIn (partsOf ps) (h .path) ≡ pathOf (tableOf es ps) (h .id)
   pub few : length (partsIn (partsOf ps) (h .path)) ≤ mostParts
 

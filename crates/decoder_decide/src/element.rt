@@ -1,34 +1,36 @@
 // Step 11: a Start, or a payload.
 
+ghost use mathlib.Core.Bool.{true};
 ghost use mathlib.Core.Path.{_≡_};
 ghost use Prim.Native.Nat.{_≤_, _<_};
 ghost use Rattle.decoder_rules.specs.OneCall.{dataOr, readElement, elementOf, step11};
-ghost use Rattle.decoder_decide.specs.Bounds.{longestHeader, SmallSize};
+ghost use Rattle.decoder_decide.specs.Bounds.{longestHeader, SmallSize, FitsKind};
+ghost use Rattle.tag_parse.specs.Payload.{isInteger};
 ghost use Rattle.decoder_rules.specs.Record.{farthest, sizeLimit};
 use decoder_rules::errors::parse_error;
 use decoder_rules::types::Action;
 use decoder_rules::types::DecodeError;
 use spec_util::types::MOST_OPEN;
 use table::lookup::is_master;
-use tag_parse::payload::read_data_tag;
+use tag_parse::payload::value_of;
 use tag_parse::types::EBMLSize;
 use tag_parse::types::Range;
-use tag_parse::types::ReadData;
+use tag_parse::types::ReadValue;
 use tag_parse::types::TagHeader;
 
 // The Data, or what reading the payload refuses.
-fn data_or(id: u64, taken: usize, r: ReadData) -> Action
+fn data_or(id: u64, taken: usize, r: ReadValue) -> Action
     ensures { λ a. ⌜ a ≡ dataOr id taken r ⌝ }
 {
     match r {
-        ReadData::Value(value) => Action::Data { id, value, taken },
-        ReadData::Refused(e) => Action::Refuse(parse_error(e)),
+        ReadValue::Value(value) => Action::Data { id, value, taken },
+        ReadValue::Refused(e) => Action::Refuse(parse_error(e)),
     }
 }
 
 // An element with n bytes of payload after its header.
 fn read_element(position: u64, h: TagHeader, n: u64, input: &[u8]) -> Action
-    requires { ⌜ (position ≤ farthest) × (h .len ≤ longestHeader) × (n < sizeLimit) ⌝ }
+    requires { ⌜ (position ≤ farthest) × (h .len ≤ longestHeader) × (n < sizeLimit) × (isInteger (h .kind) ≡ true → n ≤ 8) ⌝ }
     ensures { λ r. ⌜ r ≡ readElement position h n (now (input .entry)) ⌝ }
 {
     let len = h.len;
@@ -41,12 +43,12 @@ fn read_element(position: u64, h: TagHeader, n: u64, input: &[u8]) -> Action
         begin: position + len as u64,
         end: position + total as u64,
     };
-    data_or(h.id, total, read_data_tag(kind, &input[len..total], range))
+    data_or(h.id, total, value_of(kind, &input[len..total], range))
 }
 
 // An element that is no Master, with this size in its header.
 fn element_of(position: u64, h: TagHeader, size: EBMLSize, input: &[u8]) -> Action
-    requires { ⌜ (position ≤ farthest) × (h .len ≤ longestHeader) × SmallSize size ⌝ }
+    requires { ⌜ (position ≤ farthest) × (h .len ≤ longestHeader) × SmallSize size × FitsKind (h .kind) size ⌝ }
     ensures { λ r. ⌜ r ≡ elementOf position h size (now (input .entry)) ⌝ }
 {
     match size {
@@ -57,7 +59,7 @@ fn element_of(position: u64, h: TagHeader, size: EBMLSize, input: &[u8]) -> Acti
 
 // Step 11 with so many masters open: a Start, or an element that is none.
 pub fn step11(open_count: usize, position: u64, h: TagHeader, input: &[u8]) -> Action
-    requires { ⌜ (position ≤ farthest) × (h .len ≤ longestHeader) × SmallSize (h .size) ⌝ }
+    requires { ⌜ (position ≤ farthest) × (h .len ≤ longestHeader) × SmallSize (h .size) × FitsKind (h .kind) (h .size) ⌝ }
     ensures { λ r. ⌜ r ≡ step11 «open_count» position h (now (input .entry)) ⌝ }
 {
     let kind = h.kind;

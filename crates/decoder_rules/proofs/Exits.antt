@@ -15,12 +15,12 @@ use Rattle.table.specs.declared.types.Path.{Path}
 use Rattle.spec_util.specs.Walk.{mostOpen}
 use Rattle.spec_util.specs.declared.types.OpenTag.{OpenTag}
 use Rattle.tag_parse.specs.Header.{readHeader}
-use Rattle.tag_parse.specs.Payload.{readData}
+use Rattle.tag_parse.specs.Payload.{valueOf}
 use Rattle.tag_parse.specs.declared.types.EBMLSize.{EBMLSize}
 use Rattle.tag_parse.specs.declared.types.EBMLSize.the-variants.{Known, Unknown}
 use Rattle.tag_parse.specs.declared.types.ParseError.{ParseError}
-use Rattle.tag_parse.specs.declared.types.ReadData.{ReadData}
-use Rattle.tag_parse.specs.declared.types.ReadData.the-variants as payload
+use Rattle.tag_parse.specs.declared.types.ReadValue.{ReadValue}
+use Rattle.tag_parse.specs.declared.types.ReadValue.the-variants as payload
 use Rattle.tag_parse.specs.declared.types.ReadHeader.{ReadHeader}
 use Rattle.tag_parse.specs.declared.types.ReadHeader.the-variants as header
 use Rattle.tag_parse.specs.declared.types.TagHeader.{TagHeader}
@@ -63,8 +63,8 @@ abbrev pub isTooLarge : TagDecoder → ℕ → Bool
 isTooLarge d n = d .settings .«max_given» && ltb (d .settings .«max_size») n
 
 -- what is read of a payload of n bytes
-abbrev pub payloadOf : TagDecoder → TagHeader → ℕ → List ℕ → ReadData
-payloadOf d h n s = readData (h .kind) (take n (drop (h .len) s)) (record { begin = d .position + h .len; end = d .position + (h .len + n) })
+abbrev pub payloadOf : TagDecoder → TagHeader → ℕ → List ℕ → ReadValue
+payloadOf d h n s = valueOf (h .kind) (take n (drop (h .len) s)) (record { begin = d .position + h .len; end = d .position + (h .len + n) })
 
 -- 8 and 9 are passed
 pub record Valid (t : List Entry) (d : TagDecoder) (h : TagHeader) : Type 0 where
@@ -151,7 +151,7 @@ module _ (t : List Entry) (d : TagDecoder) (h : TagHeader) (s : List ℕ) where
   abbrev By : Action → Type 0
   By a = HeaderExit t d h s a
 
-  data-exits : (n : ℕ) → HasPayload t d h n → h .len + n ≤ length s → (r : ReadData) → payloadOf d h n s ≡ r → By (dataOr (h .id) (h .len + n) r)
+  data-exits : (n : ℕ) → HasPayload t d h n → h .len + n ≤ length s → (r : ReadValue) → payloadOf d h n s ≡ r → By (dataOr (h .id) (h .len + n) r)
   data-exits n at l (payload.Value v) e = holds n v at l e
   data-exits n at l (payload.Refused x) e = payload-refused n x at l e
 

@@ -6,7 +6,7 @@ pub mod MoveLaws
 pub mod Exits
 pub mod HeaderPath
 pub mod EndExits
-pub mod No22
+pub mod NumbersFit
 pub mod AppendedDecision
 pub mod Computing
 pub mod RefusalNumbers

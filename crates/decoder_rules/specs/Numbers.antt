@@ -23,7 +23,6 @@ errorNumber error.OversizedChildElement = 18
 errorNumber error.TooManyOpen = 19
 errorNumber error.FromUtf8Error = 20
 errorNumber error.ReadF64Mismatch = 21
-errorNumber error.ReadIntegerOverflow = 22
 errorNumber (error.UnexpectedEOF c) = 23
 errorNumber error.NotAMaster = 24
 
@@ -32,7 +31,6 @@ abbrev pub parseError : ParseError → DecodeError
 parseError parse.InvalidTagData = error.InvalidTagData
 parseError parse.FromUtf8Error = error.FromUtf8Error
 parseError parse.ReadF64Mismatch = error.ReadF64Mismatch
-parseError parse.ReadIntegerOverflow = error.ReadIntegerOverflow
 
 -- the number of the refusal in an answer; 0 for any other answer
 abbrev pub answerRefusal : Answer → ℕ

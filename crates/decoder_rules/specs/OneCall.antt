@@ -20,11 +20,11 @@ use Rattle.table.specs.Table.{Entry, partsOf, partsIn, dataTypeOf, pathOf, isMa
 use Rattle.spec_util.specs.Ended.{isEndedBy}
 use Rattle.spec_util.specs.Walk.{mostOpen, validateTagPath}
 use Rattle.spec_util.specs.declared.types.OpenTag.{OpenTag}
-use Rattle.tag_parse.specs.Payload.{readData}
+use Rattle.tag_parse.specs.Payload.{valueOf}
 use Rattle.tag_parse.specs.declared.types.EBMLSize.{EBMLSize}
 use Rattle.tag_parse.specs.declared.types.EBMLSize.the-variants.{Known, Unknown}
-use Rattle.tag_parse.specs.declared.types.ReadData.{ReadData}
-use Rattle.tag_parse.specs.declared.types.ReadData.the-variants as payload
+use Rattle.tag_parse.specs.declared.types.ReadValue.{ReadValue}
+use Rattle.tag_parse.specs.declared.types.ReadValue.the-variants as payload
 use Rattle.tag_parse.specs.declared.types.TagHeader.{TagHeader}
 use Rattle.decoder_rules.specs.Record.{farthest, sizeLimit, opens, endOf, settledTo}
 use Rattle.decoder_rules.specs.Numbers.{parseError}
@@ -150,10 +150,11 @@ endedTops t x (m ∷ l) = cond (not (m .known) && isEndedBy t (m .id) x) (endedT
 abbrev pub step10 : List Entry → TagDecoder → ℕ → ℕ
 step10 t d x = d .«open_count» - endedTops t x (reverse (opens d))
 
--- ---- 11. "Master: 19, or Start. Else Unknown size: 14; payload incomplete: need more; then 22, 20, 21; else Data."
+-- ---- 11. "Master: 19, or Start. Else Unknown size: 14; payload incomplete: need more", then 20, 21, else Data. Document
+-- 01 has 22 before 20; no element has it (document 02, CR 8)
 
 -- the Data of n bytes in all with this value, or what reading the payload refuses
-abbrev pub dataOr : ℕ → ℕ → ReadData → Action
+abbrev pub dataOr : ℕ → ℕ → ReadValue → Action
 dataOr x n (payload.Value v) = act.Data x v n
 dataOr x n (payload.Refused e) = act.Refuse (parseError e)
 
@@ -162,7 +163,7 @@ unfoldable pub readElement : ℕ → TagHeader → ℕ → List ℕ → Action
 readElement p h n s =
     cond (ltb (length s) (h .len + n)) act.NeedMore
     (dataOr (h .id) (h .len + n)
-    (readData (h .kind) (take n (drop (h .len) s)) (record { begin = p + h .len; end = p + (h .len + n) })))
+    (valueOf (h .kind) (take n (drop (h .len) s)) (record { begin = p + h .len; end = p + (h .len + n) })))
 
 -- an element that is no Master, with this size in its header at the position p
 unfoldable pub elementOf : ℕ → TagHeader → EBMLSize → List ℕ → Action

@@ -43,7 +43,6 @@ namedBy error.OversizedChildElement = nothing
 namedBy error.TooManyOpen = nothing
 namedBy error.FromUtf8Error = nothing
 namedBy error.ReadF64Mismatch = nothing
-namedBy error.ReadIntegerOverflow = nothing
 namedBy (error.UnexpectedEOF c) = cut c
 namedBy error.NotAMaster = nothing
 

@@ -22,7 +22,6 @@ pub fn error_number(e: DecodeError) -> u64
         DecodeError::TooManyOpen => 19,
         DecodeError::FromUtf8Error => 20,
         DecodeError::ReadF64Mismatch => 21,
-        DecodeError::ReadIntegerOverflow => 22,
         DecodeError::UnexpectedEOF(_) => 23,
         DecodeError::NotAMaster => 24,
     }
@@ -36,6 +35,5 @@ pub fn parse_error(e: ParseError) -> DecodeError
         ParseError::InvalidTagData => DecodeError::InvalidTagData,
         ParseError::FromUtf8Error => DecodeError::FromUtf8Error,
         ParseError::ReadF64Mismatch => DecodeError::ReadF64Mismatch,
-        ParseError::ReadIntegerOverflow => DecodeError::ReadIntegerOverflow,
     }
 }

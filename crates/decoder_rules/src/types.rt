@@ -94,7 +94,6 @@ pub enum DecodeError {
     TooManyOpen,
     FromUtf8Error,
     ReadF64Mismatch,
-    ReadIntegerOverflow,
     UnexpectedEOF(Cut),
     NotAMaster,
 }

@@ -9,12 +9,7 @@ use borrow.Author.Tests.{leb-false}
 use lib.Dec.{leb, eqb}
 use lib.ListN.{length, drop, length-map}
 use Rattle.tools.specs.Bytes.{Octets}
-use Rattle.tools.specs.Integer.{arrToU64, arrToI64}
 use Rattle.tools.specs.Float.{arrToF64}
-use Rattle.tools.specs.declared.integer.ArrToU64.{ArrToU64}
-use Rattle.tools.specs.declared.integer.ArrToU64.the-variants as unsigned
-use Rattle.tools.specs.declared.integer.ArrToI64.{ArrToI64}
-use Rattle.tools.specs.declared.integer.ArrToI64.the-variants as signed
 use Rattle.tools.specs.declared.float.ArrToF64.{ArrToF64}
 use Rattle.tools.specs.declared.float.ArrToF64.the-variants as float
 use Rattle.utf8.specs.Rfc3629.{isText}
@@ -33,14 +28,14 @@ use Rattle.table.proofs.Consequences.{master-of-ids, path-masters}
 use Rattle.spec_util.specs.declared.types.OpenTag.{OpenTag}
 use Rattle.tag_parse.proofs.Headers.{header-sound, header-spec, known-small}
 use Rattle.tag_parse.specs.Header.{readHeader}
-use Rattle.tag_parse.specs.Payload.{readData, unsignedOr22, integerOr22, floatOr21}
+use Rattle.tag_parse.specs.Payload.{valueOf, floatOr21}
 use Rattle.tag_parse.specs.declared.types.EBMLSize.{EBMLSize}
 use Rattle.tag_parse.specs.declared.types.EBMLSize.the-variants.{Known, Unknown}
 use Rattle.tag_parse.specs.declared.types.ParseError.{ParseError}
 use Rattle.tag_parse.specs.declared.types.ParseError.the-variants as parse
 use Rattle.tag_parse.specs.declared.types.Range.{Range}
-use Rattle.tag_parse.specs.declared.types.ReadData.{ReadData}
-use Rattle.tag_parse.specs.declared.types.ReadData.the-variants as payload
+use Rattle.tag_parse.specs.declared.types.ReadValue.{ReadValue}
+use Rattle.tag_parse.specs.declared.types.ReadValue.the-variants as payload
 use Rattle.tag_parse.specs.declared.types.ReadHeader.the-variants as header
 use Rattle.tag_parse.specs.declared.types.TagHeader.{TagHeader}
 use Rattle.tag_parse.specs.declared.types.TagValue.{TagValue}
@@ -109,32 +104,23 @@ pub parse-mild : (d : TagDecoder) (e : ParseError) → Mild d (parseError e)
 parse-mild d parse.InvalidTagData = mild d error.InvalidTagData (omega arith)
 parse-mild d parse.FromUtf8Error = mild d error.FromUtf8Error (omega arith)
 parse-mild d parse.ReadF64Mismatch = mild d error.ReadF64Mismatch (omega arith)
-parse-mild d parse.ReadIntegerOverflow = mild d error.ReadIntegerOverflow (omega arith)
 
 -- ---- a value has the kind that was asked for
 
 -- what a payload is read as has this kind
-abbrev OfKind : TagDataType → ReadData → Type 0
+abbrev OfKind : TagDataType → ReadValue → Type 0
 OfKind k (payload.Value v) = valueKind v ≡ k
 OfKind k (payload.Refused e) = Unit {0}
-
-unsigned-kind : (r : ArrToU64) → OfKind type.UnsignedInt (unsignedOr22 r)
-unsigned-kind (unsigned.Value x) = refl
-unsigned-kind (unsigned.Refused x) = tt
-
-integer-kind : (r : ArrToI64) → OfKind type.Integer (integerOr22 r)
-integer-kind (signed.Value x) = refl
-integer-kind (signed.Refused x) = tt
 
 float-kind : (r : ArrToF64) → OfKind type.Float (floatOr21 r)
 float-kind (float.Bits x) = refl
 float-kind (float.Refused x) = tt
 
 -- a Master has no payload
-data-kind : (k : TagDataType) (s : List ℕ) (r : Range) → isMaster k ≡ false → OfKind k (readData k s r)
-unfolding readData isMaster
-data-kind type.UnsignedInt s r n = unsigned-kind (arrToU64 s)
-data-kind type.Integer s r n = integer-kind (arrToI64 s)
+data-kind : (k : TagDataType) (s : List ℕ) (r : Range) → isMaster k ≡ false → OfKind k (valueOf k s r)
+unfolding valueOf isMaster
+data-kind type.UnsignedInt s r n = refl
+data-kind type.Integer s r n = refl
 data-kind type.Utf8 s r n = pick (OfKind type.Utf8) (isText s) _ _ (λ e. refl) (λ e. tt)
 data-kind type.Binary s r n = refl
 data-kind type.Float s r n = pick (OfKind type.Float) (eqb (length s) 0) _ _ (λ e. refl) (λ e. float-kind (arrToF64 s))

@@ -82,7 +82,6 @@ parse-read : (e : ParseError) → comesUnread (errorNumber (parseError e)) ≡ f
 parse-read parse.InvalidTagData = refl
 parse-read parse.FromUtf8Error = refl
 parse-read parse.ReadF64Mismatch = refl
-parse-read parse.ReadIntegerOverflow = refl
 
 closing-late : {t : List Entry} {d : TagDecoder} {k : ℕ} {a : Action} → Closing t d k a → Late a
 closing-late (exit.closes e) = refl

@@ -11,9 +11,9 @@ use Rattle.table.specs.declared.types.Checked.the-variants.{Passed}
 use Rattle.table.specs.declared.types.TagDataType.{TagDataType}
 use Rattle.table.specs.declared.types.TagDataType.the-variants as type
 use Rattle.tag_parse.specs.Header.{readHeader}
-use Rattle.tag_parse.specs.Payload.{readData}
+use Rattle.tag_parse.specs.Payload.{valueOf}
 use Rattle.tag_parse.specs.declared.types.EBMLSize.the-variants.{Known}
-use Rattle.tag_parse.specs.declared.types.ReadData.the-variants.{Value}
+use Rattle.tag_parse.specs.declared.types.ReadValue.the-variants.{Value}
 use Rattle.tag_parse.specs.declared.types.ReadHeader.the-variants.{Header}
 use Rattle.tag_parse.specs.declared.types.TagHeader.{TagHeader}
 use Rattle.tag_parse.specs.declared.types.TagValue.{TagValue}
@@ -113,7 +113,7 @@ pub record WholeData (t : List Entry) (s : List ℕ) (o n : ℕ) (v : TagValue) 
   pub known : its .size ≡ Known size
   pub count : n ≡ its .len + size
   pub within : n ≤ length s
-  pub value : readData (its .kind) (take size (drop (its .len) s)) (record { begin = o + its .len; end = o + n }) ≡ Value v
+  pub value : valueOf (its .kind) (take size (drop (its .len) s)) (record { begin = o + its .len; end = o + n }) ≡ Value v
 
 -- an event that settles nothing: a Data whose ID has no type, or a Global in its path
 abbrev pub isLoose : List Entry → Event → Bool

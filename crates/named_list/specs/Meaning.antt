@@ -30,8 +30,7 @@ contentMeaning n =
     cond (eqb n 19) (ascii "32 masters are open already")
     (cond (eqb n 20) (ascii "the text is not UTF-8")
     (cond (eqb n 21) (ascii "the float has neither 0, 4 nor 8 bytes")
-    (cond (eqb n 22) (ascii "the integer has over 8 bytes")
-    (ascii "the input ends inside an element"))))
+    (ascii "the input ends inside an element")))
 
 -- what a refusal means
 unfoldable pub meaning : ℕ → List ℕ

@@ -108,7 +108,6 @@ cutId error.OversizedChildElement = Nothing
 cutId error.TooManyOpen = Nothing
 cutId error.FromUtf8Error = Nothing
 cutId error.ReadF64Mismatch = Nothing
-cutId error.ReadIntegerOverflow = Nothing
 cutId (error.UnexpectedEOF c) = c .id
 cutId error.NotAMaster = Nothing
 

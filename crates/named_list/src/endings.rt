@@ -32,7 +32,6 @@ fn cut_id(error: DecodeError) -> Optional
         DecodeError::TooManyOpen => Optional::Nothing,
         DecodeError::FromUtf8Error => Optional::Nothing,
         DecodeError::ReadF64Mismatch => Optional::Nothing,
-        DecodeError::ReadIntegerOverflow => Optional::Nothing,
         DecodeError::UnexpectedEOF(cut) => cut.id,
         DecodeError::NotAMaster => Optional::Nothing,
     }

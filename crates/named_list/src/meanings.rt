@@ -43,7 +43,6 @@ fn put_content_meaning(number: u64, out: &mut [u8], at: usize) -> usize
         19 => put_text(b"32 masters are open already", out, at),
         20 => put_text(b"the text is not UTF-8", out, at),
         21 => put_text(b"the float has neither 0, 4 nor 8 bytes", out, at),
-        22 => put_text(b"the integer has over 8 bytes", out, at),
         _ => put_text(b"the input ends inside an element", out, at),
     }
 }

@@ -5,7 +5,6 @@ use mathlib.Core.Path.{_≡_, sym, subst}
 use mathlib.Core.List.{List}
 use lib.ListN.{length}
 use Rattle.tools.specs.Bytes.{Octets}
-use Rattle.decoder_rules.specs.Numbers.{answerRefusal, searchRefusal}
 use Rattle.decoder_rules.specs.Moving.{decode}
 use Rattle.decoder_rules.specs.EndOfInput.{decodeEof}
 use Rattle.decoder_rules.specs.Recovery.{tryRecover}
@@ -18,7 +17,6 @@ use Rattle.decoder_rules.specs.declared.types.TagDecoder.{TagDecoder}
 use Rattle.tag_decoder.proofs.CallLaws as by-value
 use Rattle.decoder_rules.specs.declared.types.WaitingEnd.{WaitingEnd}
 use Rattle.decoder_rules.proofs.MoveLaws.{withNote}
-use Rattle.decoder_rules.proofs.No22 as no22
 use Rattle.tag_decoder.proofs.CallLaws.{CallFacts}
 use Rattle.tag_decoder_lent.specs.Lent.{ReturnsAndLeaves, apart, recoveryApart}
 use Rattle.tag_decoder_lent.specs.declared.types.Reply.{Reply}
@@ -59,16 +57,3 @@ module _ (es ps : List ℕ) (d : TagDecoder) (s : List ℕ) {r : RecoveryReply} 
 
   pub refused-recovery-changes-nothing : {x : Refusal} → r .answer ≡ search.Refused x → (r .taken ≡ 0) × (e ≡ d)
   refused-recovery-changes-nothing {x} = carried (λ r e. r .answer ≡ search.Refused x → (r .taken ≡ 0) × (e ≡ d)) l (by-value.refused-recovery-changes-nothing es ps d s)
-
--- ---- refusal 22
-
-module _ (es ps : List ℕ) (d : TagDecoder) (s : List ℕ) where
-  -- no call on a lent record answers 22 either
-  pub decode-not-22 : {r : Reply} {e : TagDecoder} → ReturnsAndLeaves r e (apart (decode es ps d s)) → answerRefusal (r .answer) ≡ 22 → ⊥
-  decode-not-22 l = carried (λ r e. answerRefusal (r .answer) ≡ 22 → ⊥) l (no22.decode-not-22 es ps d s)
-
-  pub eof-not-22 : {r : Reply} {e : TagDecoder} → ReturnsAndLeaves r e (apart (decodeEof es ps d s)) → answerRefusal (r .answer) ≡ 22 → ⊥
-  eof-not-22 l = carried (λ r e. answerRefusal (r .answer) ≡ 22 → ⊥) l (no22.eof-not-22 es ps d s)
-
-  pub recovery-not-22 : {r : RecoveryReply} {e : TagDecoder} → ReturnsAndLeaves r e (recoveryApart (tryRecover es ps d s)) → searchRefusal (r .answer) ≡ 22 → ⊥
-  recovery-not-22 l = carried (λ r e. searchRefusal (r .answer) ≡ 22 → ⊥) l (no22.recovery-not-22 es ps d s)

@@ -4,13 +4,14 @@ ghost use mathlib.Core.Path.{_≡_};
 ghost use Rattle.tag_parse.specs.Refusals.{parseNumber};
 use table::types::Path;
 use table::types::TagDataType;
+use tools::errors::ToolError;
 
-// The Rust's errors of these routines: `InvalidTagData` of CorruptedFileError, and the problems of CorruptedTagData.
+// The Rust's errors of an element: `InvalidTagData` of CorruptedFileError, and those problems of CorruptedTagData that
+// an element can have whose header was read. An integer of over 8 bytes is none: its header was refused.
 pub enum ParseError {
     InvalidTagData,
     FromUtf8Error,
     ReadF64Mismatch,
-    ReadIntegerOverflow,
 }
 
 // The refusal's number in the interface.
@@ -21,7 +22,6 @@ pub fn parse_number(e: ParseError) -> u64
         ParseError::InvalidTagData => 14,
         ParseError::FromUtf8Error => 20,
         ParseError::ReadF64Mismatch => 21,
-        ParseError::ReadIntegerOverflow => 22,
     }
 }
 
@@ -69,8 +69,15 @@ pub enum TagValue {
     Raw(Range),
 }
 
-// A payload's value, or why not.
+// The value of an element's payload, or why not.
+pub enum ReadValue {
+    Value(TagValue),
+    Refused(ParseError),
+}
+
+// The value of any bytes, or why not: besides, a number routine may refuse them.
 pub enum ReadData {
     Value(TagValue),
     Refused(ParseError),
+    NumberRefused(ToolError),
 }

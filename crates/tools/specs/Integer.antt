@@ -19,15 +19,17 @@ use Rattle.tools.specs.declared.integer.ArrToI64.the-variants as signed
 abbrev pub absoluteValue : ℤ → ℕ
 absoluteValue z = natAbs z
 
+-- bytes taken as two's complement in the 8 bits of each; no byte is 0
+unfoldable pub integerOf : List ℕ → ℤ
+integerOf s = cond (eqb (length s) 0) (pos 0) (signedOf (8 * length s) (beNumber s))
+
 -- a number of up to 8 bytes, refused where they are more
 unfoldable pub arrToU64 : List ℕ → ArrToU64
 arrToU64 s = cond (ltb 8 (length s)) (unsigned.Refused ReadU64Overflow) (unsigned.Value (beNumber s))
 
--- the same taken as two's complement in the 8 bits of each byte; no byte is 0
+-- the same taken as two's complement
 unfoldable pub arrToI64 : List ℕ → ArrToI64
-arrToI64 s =
-    cond (ltb 8 (length s)) (signed.Refused ReadI64Overflow)
-    (cond (eqb (length s) 0) (signed.Value (pos 0)) (signed.Value (signedOf (8 * length s) (beNumber s))))
+arrToI64 s = cond (ltb 8 (length s)) (signed.Refused ReadI64Overflow) (signed.Value (integerOf s))
 
 -- the eight bytes of a number at the front of the lent ones
 unfoldable pub u64ToArr : ℕ → List ℕ → Written × List ℕ

@@ -1,8 +1,11 @@
 // Payloads that are integers: `arr_to_u64` and `arr_to_i64` of tools.rs; and |v|.
 
 ghost use mathlib.Core.Path.{_≡_};
+ghost use Prim.Native.Nat.{_≤_};
+ghost use lib.ListN.{length};
 ghost use Rattle.tools.specs.Answers.{Gives};
-ghost use Rattle.tools.specs.Integer.{absoluteValue, arrToU64, arrToI64, u64ToArr, i64ToArr};
+ghost use Rattle.tools.specs.Bytes.{beNumber};
+ghost use Rattle.tools.specs.Integer.{absoluteValue, integerOf, arrToU64, arrToI64, u64ToArr, i64ToArr};
 use crate::bytes::be_number;
 use crate::bytes::put_be;
 use crate::errors::ToolError;
@@ -24,29 +27,44 @@ pub enum ArrToI64 {
     Refused(ToolError),
 }
 
+// The number of bytes that are known to be at most 8, big-endian.
+pub fn unsigned_of(arr: &[u8]) -> u64
+    requires { ⌜ length (now arr) ≤ 8 ⌝ }
+    ensures { λ r. ⌜ r ≡ beNumber (now (arr .entry)) ⌝ }
+{
+    be_number(arr, arr.len())
+}
+
+// The same in two's complement.
+pub fn integer_of(arr: &[u8]) -> i64
+    requires { ⌜ length (now arr) ≤ 8 ⌝ }
+    ensures { λ r. ⌜ r ≡ integerOf (now (arr .entry)) ⌝ }
+{
+    let n = arr.len();
+    if n == 0 {
+        return 0;
+    }
+    signed_of(be_number(arr, n), 8 * n)
+}
+
 // The number of 0 to 8 bytes, big-endian.
 pub fn arr_to_u64(arr: &[u8]) -> ArrToU64
     ensures { λ r. ⌜ r ≡ arrToU64 (now (arr .entry)) ⌝ }
 {
-    let n = arr.len();
-    if 8 < n {
+    if 8 < arr.len() {
         return ArrToU64::Refused(ToolError::ReadU64Overflow);
     }
-    ArrToU64::Value(be_number(arr, n))
+    ArrToU64::Value(unsigned_of(arr))
 }
 
 // The same in two's complement.
 pub fn arr_to_i64(arr: &[u8]) -> ArrToI64
     ensures { λ r. ⌜ r ≡ arrToI64 (now (arr .entry)) ⌝ }
 {
-    let n = arr.len();
-    if 8 < n {
+    if 8 < arr.len() {
         return ArrToI64::Refused(ToolError::ReadI64Overflow);
     }
-    if n == 0 {
-        return ArrToI64::Value(0);
-    }
-    ArrToI64::Value(signed_of(be_number(arr, n), 8 * n))
+    ArrToI64::Value(integer_of(arr))
 }
 
 // |val|: how far a number is from 0.

@@ -155,7 +155,6 @@ refused-not-whole error.OversizedChildElement p d = refl
 refused-not-whole error.TooManyOpen p d = refl
 refused-not-whole error.FromUtf8Error p d = refl
 refused-not-whole error.ReadF64Mismatch p d = refl
-refused-not-whole error.ReadIntegerOverflow p d = refl
 refused-not-whole (error.UnexpectedEOF cut) p d = refl
 refused-not-whole error.NotAMaster p d = refl
 

@@ -108,7 +108,6 @@ refusedAs error.OversizedChildElement p d = verdict.Refused (errorNumber error.O
 refusedAs error.TooManyOpen p d = verdict.Refused (errorNumber error.TooManyOpen) p
 refusedAs error.FromUtf8Error p d = verdict.Refused (errorNumber error.FromUtf8Error) p
 refusedAs error.ReadF64Mismatch p d = verdict.Refused (errorNumber error.ReadF64Mismatch) p
-refusedAs error.ReadIntegerOverflow p d = verdict.Refused (errorNumber error.ReadIntegerOverflow) p
 refusedAs (error.UnexpectedEOF cut) p d = verdict.Cut (d .position) (rootOf d) (bytesThere (cut .part) (d .position))
 refusedAs error.NotAMaster p d = verdict.Refused (errorNumber error.NotAMaster) p
 

@@ -47,7 +47,7 @@ returns-2 c d e shown =
 step11-requires : tie.Need-step11-requires
 step11-requires c κs =
     let t = c .before .before .before .before .before .before .before .before .before .before in
-    (t .pre .1 .0 .near, t .pre .1 .1 .short, small-size (t .args .h .size) (t .pre .1 .1 .small))
+    (t .pre .1 .0 .near, t .pre .1 .1 .short, small-size (t .args .h .size) (t .pre .1 .1 .small), t .pre .1 .1 .fits)
 
 returns-3 : tie.Need-returns-3
 returns-3 c d e shown =

@@ -14,7 +14,7 @@ enum-known-size c = search needs
 read-element-requires : tie.Need-read-element-requires
 read-element-requires c κs =
     let t = c .before .before .before .before in
-    (t .pre .0, t .pre .1, rw (c .before .size .given .1) at (t .pre .2))
+    (t .pre .0, t .pre .1, rw (c .before .size .given .1) at (t .pre .2), rw (c .before .size .given .1) at (t .pre .3))
 
 returns : tie.Need-returns
 unfolding elementOf

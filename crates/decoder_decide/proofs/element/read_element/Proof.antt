@@ -2,7 +2,9 @@
 use Prim.Native.Nat.{_+_, _-_}
 use mathlib.Core.Path.{_≡_, _∙_}
 use native.Mathlib.Omega.{arith}
+use native.Mathlib.Nat.{min-le-left}
 use borrow.Author.Tests.{lt-ltb, le-ltb}
+use lib.ListN.{length, drop, length-take}
 use Rattle.decoder_rules.specs.OneCall.{readElement}
 use borrow.Author.Needs.{needs}
 use Rattle.decoder_decide.proofs.element.read_element.Statement.{statement}
@@ -21,17 +23,21 @@ add-t12 c = search needs
 add-t14 : tie.Need-add-t14
 add-t14 c = search needs
 
-sub-read-data-tag : tie.Need-sub-read-data-tag
-sub-read-data-tag c = search needs
+sub-value-of : tie.Need-sub-value-of
+sub-value-of c = search needs
 
-part-read-data-tag-start : tie.Need-part-read-data-tag-start
-part-read-data-tag-start c = search needs
+part-value-of-start : tie.Need-part-value-of-start
+part-value-of-start c = search needs
 
-part-read-data-tag-end : tie.Need-part-read-data-tag-end
-part-read-data-tag-end c = search needs
+part-value-of-end : tie.Need-part-value-of-end
+part-value-of-end c = search needs
 
-read-data-tag-requires : tie.Need-read-data-tag-requires
-read-data-tag-requires c κs = search needs
+value-of-requires : tie.Need-value-of-requires
+value-of-requires c κs k =
+    let t = c .before .before .before in
+    let a = t .args in
+    let rest = drop (a .h .len) (a .input .now) in
+    omega (arith, t .pre .3 k, length-take (a .h .len + a .n - a .h .len) rest, min-le-left (a .h .len + a .n - a .h .len) (length rest))
 
 data-or-requires : tie.Need-data-or-requires
 data-or-requires c κs = search needs
@@ -41,7 +47,7 @@ unfolding readElement
 returns-2 c =
     let a = c .before .before .before .before .before .args in
     let e : a .h .len + a .n - a .h .len ≡ a .n = omega arith in
-    rw (le-ltb _ _ (c .before .before .before .if1 .left)) (c .data-or .ensures ∙ rw (c .before .read-data-tag .ensures, e))
+    rw (le-ltb _ _ (c .before .before .before .if1 .left)) (c .data-or .ensures ∙ rw (c .before .value-of .ensures, e))
 
 pub read-element-spec : {M : Type 1} → statement M
 read-element-spec =
@@ -51,9 +57,9 @@ read-element-spec =
     returns
     add-t12
     add-t14
-    sub-read-data-tag
-    part-read-data-tag-start
-    part-read-data-tag-end
-    read-data-tag-requires
+    sub-value-of
+    part-value-of-start
+    part-value-of-end
+    value-of-requires
     data-or-requires
     returns-2)

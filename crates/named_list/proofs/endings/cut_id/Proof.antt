@@ -39,14 +39,11 @@ enum-told-11 c = search needs
 enum-told-12 : tie.Need-enum-told-12
 enum-told-12 c = search needs
 
-enum-told-13 : tie.Need-enum-told-13
-enum-told-13 c = search needs
-
 enum-known-error : tie.Need-enum-known-error
 enum-known-error c = search needs
 
-enum-told-14 : tie.Need-enum-told-14
-enum-told-14 c = search needs
+enum-told-13 : tie.Need-enum-told-13
+enum-told-13 c = search needs
 
 returns : tie.Need-returns
 returns c = search needs
@@ -85,13 +82,10 @@ returns-12 : tie.Need-returns-12
 returns-12 c = search needs
 
 returns-13 : tie.Need-returns-13
-returns-13 c = search needs
+returns-13 c = rw (c .before .error .given .1)
 
 returns-14 : tie.Need-returns-14
-returns-14 c = rw (c .before .error .given .1)
-
-returns-15 : tie.Need-returns-15
-returns-15 c = search needs
+returns-14 c = search needs
 
 pub cut-id-spec : {M : Type 1} → statement M
 cut-id-spec =
@@ -109,9 +103,8 @@ cut-id-spec =
     enum-told-10
     enum-told-11
     enum-told-12
-    enum-told-13
     enum-known-error
-    enum-told-14
+    enum-told-13
     returns
     returns-2
     returns-3
@@ -125,5 +118,4 @@ cut-id-spec =
     returns-11
     returns-12
     returns-13
-    returns-14
-    returns-15)
+    returns-14)

@@ -31,12 +31,6 @@ slice-aggregate-put-text-4 c = search needs
 put-text-requires-4 : tie.Need-put-text-requires-4
 put-text-requires-4 c κs = search needs
 
-slice-aggregate-put-text-5 : tie.Need-slice-aggregate-put-text-5
-slice-aggregate-put-text-5 c = search needs
-
-put-text-requires-5 : tie.Need-put-text-requires-5
-put-text-requires-5 c κs = search needs
-
 same-length : tie.Need-same-length
 same-length c = search needs
 
@@ -63,16 +57,9 @@ same-length-4 c = search needs
 
 returns-4 : tie.Need-returns-4
 unfolding contentMeaning
-returns-4 c = rw (c .before .before .before .before .before .match .keys4) (within (omega arith) (c .before .before .put-text4 .ensures))
-
-same-length-5 : tie.Need-same-length-5
-same-length-5 c = search needs
-
-returns-5 : tie.Need-returns-5
-unfolding contentMeaning
-returns-5 c =
+returns-4 c =
     let r = c .before .before .before .before .before .match .rest in
-    simp (ne-eqb _ _ (r .0 .0 .0 .1), ne-eqb _ _ (r .0 .0 .1), ne-eqb _ _ (r .0 .1), ne-eqb _ _ (r .1)) (within (omega arith) (c .before .before .put-text5 .ensures))
+    simp (ne-eqb _ _ (r .0 .0 .1), ne-eqb _ _ (r .0 .1), ne-eqb _ _ (r .1)) (within (omega arith) (c .before .before .put-text4 .ensures))
 
 pub put-content-meaning-spec : {M : Type 1} → statement M
 put-content-meaning-spec =
@@ -86,8 +73,6 @@ put-content-meaning-spec =
     put-text-requires-3
     slice-aggregate-put-text-4
     put-text-requires-4
-    slice-aggregate-put-text-5
-    put-text-requires-5
     same-length
     returns
     same-length-2
@@ -95,6 +80,4 @@ put-content-meaning-spec =
     same-length-3
     returns-3
     same-length-4
-    returns-4
-    same-length-5
-    returns-5)
+    returns-4)
