@@ -101,6 +101,7 @@ static int keep(struct feed *f, const struct element *e)
         if (!ebml_is_utf8(data, length)) return damaged("a unit that is no text", e->data);
         if (length > MOST_UNIT) return damaged("a unit that is too long", e->data);
         for (size_t i = 0; i < length; i++) f->unit[i] = (char)data[i];
+        f->unit[length] = 0; /* a second Unit may be shorter than the first */
         break;
     case BLOB: case VOID: break;
     default: return damaged("an element that stands in no feed", e->data);
