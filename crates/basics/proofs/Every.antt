@@ -1,9 +1,10 @@
 -- What `every` and `any` of a list say of its members, of what stands at each place, and of lists made of it. Assumes
 -- nothing.
-use Prim.Native.Nat.{ℕ, zero, suc, _<_}
+use Prim.Native.Nat.{ℕ, zero, suc, _+_, _<_}
 use mathlib.Core.Path.{_≡_, refl, ap, _∙_}
-use mathlib.Core.Bool.{Bool, true, false, _||_, true≢false, and-eq-true-iff}
+use mathlib.Core.Bool.{Bool, true, false, _&&_, _||_, true≢false, and-eq-true-iff}
 use mathlib.Core.List.{List, [], _∷_, _++_, map, List·Memᴰ, List·Memᴰ·head, List·Memᴰ·tail}
+use native.Mathlib.Nat.{add-zero, zero-add, add-suc, suc-add}
 use native.Mathlib.Omega.{arith}
 use lib.ListN.{length, getD, take, drop}
 use Rattle.basics.specs.Lists.{every, any}
@@ -51,6 +52,25 @@ module _ {A : Type 0} (test : A → Bool) where
   unfolding any
   any-of-none [] z h = refl
   any-of-none (a ∷ l) z h = rw (h 0 (omega arith)) (any-of-none l z (λ j k. h (suc j) (omega arith)))
+
+-- ---- a test of what stands at each place, together with the place
+
+-- each element passes at its place, counted from i
+unfoldable pub everyPlace : {A : Type 0} → (ℕ → A → Bool) → ℕ → List A → Bool
+everyPlace test i [] = true
+everyPlace test i (a ∷ l) = test i a && everyPlace test (suc i) l
+
+module _ {A : Type 0} (test : ℕ → A → Bool) where
+  place-from : (i : ℕ) (l : List A) (z : A) → everyPlace test i l ≡ true → (j : ℕ) → j < length l → test (i + j) (getD l j z) ≡ true
+  unfolding everyPlace
+  place-from i [] z e j h = absurd (omega arith)
+  place-from i (a ∷ l) z e zero h = rw add-zero (both (test i a) (everyPlace test (suc i) l) e .left)
+  place-from i (a ∷ l) z e (suc j) h =
+      rw (add-suc, ← suc-add) (place-from (suc i) l z (both (test i a) (everyPlace test (suc i) l) e .right) j (omega arith))
+
+  -- so one test of the whole list is the rule at each of its places
+  pub every-place-at : (l : List A) (z : A) → everyPlace test 0 l ≡ true → (j : ℕ) → j < length l → test j (getD l j z) ≡ true
+  every-place-at l z e j h = rw zero-add at (place-from 0 l z e j h)
 
 -- ---- of a list made of others
 

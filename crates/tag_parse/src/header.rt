@@ -14,6 +14,7 @@ use table::types::Spec;
 use table::types::TagDataType;
 use tools::integer::ArrToU64;
 use tools::integer::arr_to_u64;
+use tools::page::length_on_page;
 use tools::vint::ReadVint;
 use tools::vint::read_vint;
 
@@ -24,7 +25,7 @@ fn id_length(first: u8) -> usize
     if first == 0 {
         return 1;
     }
-    u8::leading_zeros(first) as usize + 1
+    length_on_page(first)
 }
 
 // The ID at the front of the bytes, its marker kept.

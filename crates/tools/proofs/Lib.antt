@@ -2,6 +2,7 @@ pub mod BigEndian
 pub mod Least
 pub mod Cases
 pub mod Marker
+pub mod PageRule
 pub mod Widths
 pub mod Rfc8794
 pub mod Complement

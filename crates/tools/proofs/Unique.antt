@@ -10,6 +10,8 @@ use Rattle.basics.specs.Unique.{OneAnswer, answer, answerAnd}
 use Rattle.basics.proofs.Unique.{one-answer}
 pub use Rattle.basics.proofs.Unique.{same}
 use Rattle.tools.specs.Answers.{Gives}
+use Rattle.tools.proofs.page.length_on_page.Reads as length-on-page
+use Rattle.tools.proofs.page.length_on_page.Kinds as length-on-page-kinds
 use Rattle.tools.proofs.vint.read_vint.Reads as read-vint
 use Rattle.tools.proofs.vint.read_vint.Kinds as read-vint-kinds
 use Rattle.tools.proofs.vint.as_vint.Reads as as-vint
@@ -47,6 +49,9 @@ given g = ap₂ (λ r o. (r, o)) (g .answer) (g .bytes)
 
 pub gives-same : {A : Type 0} {r r' : A} {o o' : List ℕ} {p : A × List ℕ} → Gives r o p → Gives r' o' p → (r ≡ r') × (o ≡ o')
 gives-same g h = (same (g .answer) (h .answer), same (g .bytes) (h .bytes))
+
+pub length-on-page-one : (κs : Lfts 0) (a : Dens κs length-on-page-kinds.ps) → OneAnswer (length-on-page.Post κs a) answer
+length-on-page-one κs a = one-answer (λ r e p. p .ruled)
 
 pub read-vint-one : (κs : Lfts 1) (a : Dens κs read-vint-kinds.ps) → OneAnswer (read-vint.Post κs a) answer
 read-vint-one κs a = one-answer (λ r e p. p)

@@ -2,6 +2,7 @@ pub mod Refusals
 pub mod Answers
 pub mod Bytes
 pub mod Vint
+pub mod Page
 pub mod Twos
 pub mod Integer
 pub mod SignedVint

@@ -5,6 +5,7 @@ mod bytes;
 pub mod errors;
 pub mod float;
 pub mod integer;
+pub mod page;
 pub mod signed_vint;
 mod twos;
 pub mod vint;

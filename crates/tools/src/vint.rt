@@ -1,14 +1,14 @@
 // Variable-size integers: `trait Vint`, `read_vint` and `is_vint` of tools.rs.
 
 ghost use mathlib.Core.Path.{_≡_};
-ghost use Prim.Native.Nat.{_≤_, _<_};
 ghost use Rattle.tools.specs.Answers.{Gives};
-ghost use Rattle.tools.specs.Vint.{vintLength, readVint, asVint, asVintWithLength, isVint};
+ghost use Rattle.tools.specs.Vint.{readVint, asVint, asVintWithLength, isVint};
 use crate::bytes::be_number;
 use crate::bytes::least_width;
 use crate::bytes::pow2;
 use crate::bytes::put_be;
 use crate::errors::ToolError;
+use crate::page::length_on_page;
 
 // No vint holds this value or a greater one: 8 bytes have 56 bits of data.
 const VINT_LIMIT: u64 = 0x0100_0000_0000_0000;
@@ -26,14 +26,6 @@ pub enum Written {
     Refused(ToolError),
 }
 
-// The length in bytes that a first byte announces.
-fn vint_length(first: u8) -> usize
-    requires { ⌜ 0 < first ⌝ }
-    ensures { λ r. ⌜ (r ≡ vintLength first) × (r ≤ 8) ⌝ }
-{
-    u8::leading_zeros(first) as usize + 1
-}
-
 // The vint at the front of the bytes.
 pub fn read_vint(buffer: &[u8]) -> ReadVint
     ensures { λ r. ⌜ r ≡ readVint (now (buffer .entry)) ⌝ }
@@ -45,7 +37,7 @@ pub fn read_vint(buffer: &[u8]) -> ReadVint
     if first == 0 {
         return ReadVint::Refused(ToolError::ReadVintOverflow);
     }
-    let length = vint_length(first);
+    let length = length_on_page(first);
     if buffer.len() < length {
         return ReadVint::NeedMore;
     }

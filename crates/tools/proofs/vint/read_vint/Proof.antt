@@ -3,10 +3,17 @@ use Prim.Native.Nat.{ℕ, _+_, _-_, _*_, _^_, _≤_, _<_}
 use mathlib.Core.Path.{_≡_, refl, _∙_, sym, ap}
 use native.Mathlib.Omega.{arith}
 use borrow.Author.Needs.{needs}
+use lib.ListN.{getD}
+use Rattle.tools.specs.Vint.{vintLength}
 use Rattle.tools.proofs.Cases.{read-none, read-zero, read-short, read-whole}
 use Rattle.tools.proofs.Marker.{marked}
+use Rattle.tools.proofs.PageRule.{rule-vint}
 use Rattle.tools.proofs.vint.read_vint.Statement.{statement}
 use Rattle.tools.proofs.vint.read_vint.Tie as tie
+
+-- the page's entry for a first byte that is not 0 is the vint's length
+length-of : (c : tie.After-length-on-page) → c .length-on-page .result ≡ vintLength (getD (c .before .before .before .before .before .args .buffer .now) 0 0)
+length-of c = c .length-on-page .ensures .ruled ∙ rule-vint _ (c .before .if2 .left)
 
 returns : tie.Need-returns
 returns c = sym (read-none _ (c .if1 .taken))
@@ -17,12 +24,12 @@ shared-slice-read-first c = search needs
 returns-2 : tie.Need-returns-2
 returns-2 c = sym (read-zero _ (c .before .before .if1 .left) (c .if2 .taken))
 
-vint-length-requires : tie.Need-vint-length-requires
-vint-length-requires c κs = search needs
+length-on-page-requires : tie.Need-length-on-page-requires
+length-on-page-requires c κs = search needs
 
 returns-3 : tie.Need-returns-3
 returns-3 c = sym (read-short _ (c .before .before .before .before .if1 .left) (c .before .before .if2 .left)
-    (rw (← c .before .vint-length .ensures .0) (c .if3 .taken)))
+    (rw (← length-of (c .before)) (c .if3 .taken)))
 
 be-number-requires : tie.Need-be-number-requires
 be-number-requires c κs = search needs
@@ -36,7 +43,7 @@ pow2-requires c κs = omega arith
 sub-t11 : tie.Need-sub-t11
 sub-t11 c =
     let s = c .before .before .before .before .before .before .before .before .args .buffer .now in
-    let e = c .before .before .before .vint-length .ensures .0 in
+    let e = length-of (c .before .before .before) in
     let byte = c .before .before .before .before .before .shared-slice-known2 .given in
     rw (c .before .be-number .ensures .0, c .pow2 .ensures, e)
     (marked s (λ i. byte i .fits) (omega arith) (omega arith) (omega arith) .lo)
@@ -44,7 +51,8 @@ sub-t11 c =
 returns-4 : tie.Need-returns-4
 returns-4 c =
     let t = c .before .before .before .before in
-    rw (c .before .be-number .ensures .0, c .pow2 .ensures, c .before .before .before .vint-length .ensures .0)
+    let e = length-of (c .before .before .before) in
+    rw (c .before .be-number .ensures .0, c .pow2 .ensures, e)
     (sym (read-whole _ (t .before .before .if1 .left) (t .if2 .left) (omega arith)))
 
 pub read-vint-spec : {M : Type 1} → statement M
@@ -54,7 +62,7 @@ read-vint-spec =
     returns
     shared-slice-read-first
     returns-2
-    vint-length-requires
+    length-on-page-requires
     returns-3
     be-number-requires
     mul-pow2
