@@ -10,6 +10,7 @@ pub fn class(call: &str, answer: &str) -> String {
         ["wsw", value, width] => wide_shape(value, unsigned(width), 6),
         ["wv" | "ws", value] => format!("{} {}", value.starts_with('-'), is_near_any_limit(value)),
         ["iv", value] => format!("{} {}", is_near_any_limit(value), value.len() / 2),
+        ["vl", _] => String::new(),
         [name, input] => bytes(input).map_or_else(String::new, |input| bytes_shape(name, &input)),
         _ => String::new(),
     };

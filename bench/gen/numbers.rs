@@ -101,11 +101,12 @@ fn write(folder: &Path, name: &str, calls: impl IntoIterator<Item = String>) -> 
     script.finish()
 }
 
-/// Every input of up to two bytes.
+/// Every input of up to two bytes, and the length page whole.
 fn short() -> impl Iterator<Item = String> {
     ["rv", "rs", "au", "ai"]
         .into_iter()
         .flat_map(|name| short_inputs().map(move |input| read(name, &input)))
+        .chain((0..=u8::MAX).map(|first| format!("vl {first}")))
 }
 
 fn short_inputs() -> impl Iterator<Item = Vec<u8>> {

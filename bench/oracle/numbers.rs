@@ -44,6 +44,7 @@ pub fn answer(fields: &[&str]) -> Option<String> {
     match fields {
         ["g", call @ .., lent] => gateway(reply(call)?, bytes(lent)?),
         ["afb", payload] => Some(text(read_float(&bytes(payload)?), bits)),
+        ["vl", first] => Some(length_on_page(u8::try_from(unsigned(first)?).ok()?)),
         _ => Some(text(reply(fields)?, bits_or_nan)),
     }
 }
@@ -71,6 +72,15 @@ fn read_vint(input: &[u8]) -> Reply {
             None => Reply::NeedMore,
         })
     })
+}
+
+/// The length that the Rust reads after this first byte; the page has 0 where it reads no vint.
+fn length_on_page(first: u8) -> String {
+    match read_vint(&[first, 0, 0, 0, 0, 0, 0, 0]) {
+        Reply::Vint(_, length) => length.to_string(),
+        Reply::Refusal(1) => "0".to_string(),
+        other => text(other, bits),
+    }
 }
 
 fn read_signed_vint(input: &[u8]) -> Reply {

@@ -21,6 +21,8 @@ pub enum Call {
     // ArrToF64 with a NaN answered as its bits.
     ArrToF64Bits,
     IsVint(u64),
+    // The length page's entry for a first byte; C has no such call.
+    LengthOnPage(u8),
     Write(Vint),
     Bad,
 }
@@ -69,6 +71,16 @@ fn is_vint(word: &[u8]) -> Call {
         return Call::Bad;
     };
     Call::IsVint(n)
+}
+
+fn length_on_page(word: &[u8]) -> Call {
+    let Number::Value(n) = read_decimal(word) else {
+        return Call::Bad;
+    };
+    if 255 < n {
+        return Call::Bad;
+    }
+    Call::LengthOnPage(n as u8)
 }
 
 fn as_vint(word: &[u8]) -> Call {
@@ -124,6 +136,9 @@ fn call_with_width(name: &[u8], words: &[u8]) -> Call {
 fn call_on_numbers(name: &[u8], words: &[u8]) -> Call {
     if same(name, b"iv") {
         return is_vint(words);
+    }
+    if same(name, b"vl") {
+        return length_on_page(words);
     }
     if same(name, b"wv") {
         return as_vint(words);

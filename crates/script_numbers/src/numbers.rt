@@ -24,6 +24,7 @@ use tools::integer::ArrToI64;
 use tools::integer::ArrToU64;
 use tools::integer::arr_to_i64;
 use tools::integer::arr_to_u64;
+use tools::page::length_on_page;
 use tools::signed_vint::ReadSignedVint;
 use tools::signed_vint::as_signed_vint;
 use tools::signed_vint::as_signed_vint_with_length;
@@ -164,6 +165,7 @@ fn answer_call(call: Call, bytes: &[u8], out: &mut [u8]) -> usize
         Call::ArrToF64 => f64_read(arr_to_f64(bytes), out),
         Call::ArrToF64Bits => bits_read(arr_to_f64(bytes), out),
         Call::IsVint(n) => yes_or_no(is_vint(n), out),
+        Call::LengthOnPage(first) => put_decimal(length_on_page(first) as u64, out, 0),
         Call::Write(v) => answer_vint(v, out),
         Call::Bad => bad_line(out),
     }
