@@ -5,7 +5,7 @@ use mathlib.Core.Bool.{Bool, true, false, cond, not, _&&_}
 use mathlib.Core.List.{List, [], _∷_, _++_}
 use lib.Dec.{eqb}
 use lib.ListN.{length, take, getD}
-use Rattle.tools.specs.Vint.{isVint}
+use Rattle.tools.specs.ElementId.{isElementId}
 use Rattle.basics.specs.Lists.{every, any}
 use Rattle.table.specs.Shape.{goodShape}
 use Rattle.table.specs.Table.{Entry, tableOf, unlisted, dataTypeOf, pathOf, isMaster, samePath}
@@ -13,7 +13,7 @@ use Rattle.table.specs.declared.types.TagDataType.{TagDataType}
 use Rattle.table.specs.declared.types.PathPart.{PathPart}
 use Rattle.table.specs.declared.types.PathPart.the-variants.{Id, Global}
 use Rattle.table.specs.declared.types.Rule.{Rule}
-use Rattle.table.specs.declared.types.Rule.the-variants.{NotAVint, Repeated, GlobalInMaster, NoMaster, OtherPath}
+use Rattle.table.specs.declared.types.Rule.the-variants.{NotAnElementId, Repeated, GlobalInMaster, NoMaster, OtherPath}
 use Rattle.table.specs.declared.types.Judged.{Judged}
 use Rattle.table.specs.declared.types.Judged.the-variants.{Sound, Breaks}
 use Rattle.table.specs.declared.types.Checked.{Checked}
@@ -23,7 +23,7 @@ use Rattle.table.specs.declared.types.Checked.the-variants.{BadShape, Pa
 
 -- the rules are 31 to 35
 abbrev pub ruleNumber : Rule → ℕ
-ruleNumber NotAVint = 31
+ruleNumber NotAnElementId = 31
 ruleNumber Repeated = 32
 ruleNumber GlobalInMaster = 33
 ruleNumber NoMaster = 34
@@ -37,9 +37,9 @@ checkedNumber (Fault rule entry) = ruleNumber rule
 
 -- ---- the rules
 
--- 31: "the ID is one that `is_vint` accepts"
+-- 31, as document 02 has it ("The table check passes IDs that no file can hold"): the ID is an Element ID by RFC 8794
 unfoldable pub allowedId : ℕ → Bool
-allowedId id = isVint id
+allowedId id = isElementId id
 
 -- an entry of the table has this ID
 unfoldable pub listed : ℕ → List Entry → Bool
@@ -76,7 +76,7 @@ ownPaths t before (Global min max ∷ rest) = true
 
 -- whether e, as entry i of the table t, keeps a rule; 32: "no earlier entry has this ID"
 unfoldable pub keeps : List Entry → ℕ → Entry → Rule → Bool
-keeps t i e NotAVint = allowedId (e .id)
+keeps t i e NotAnElementId = allowedId (e .id)
 keeps t i e Repeated = not (listed (e .id) (take i t))
 keeps t i e GlobalInMaster = masterOfIds (e .kind) (e .path)
 keeps t i e NoMaster = allMasters t (e .path)
@@ -86,7 +86,7 @@ keeps t i e OtherPath = ownPaths t [] (e .path)
 
 -- the rules in their order
 abbrev pub rules : List Rule
-rules = NotAVint ∷ Repeated ∷ GlobalInMaster ∷ NoMaster ∷ OtherPath ∷ []
+rules = NotAnElementId ∷ Repeated ∷ GlobalInMaster ∷ NoMaster ∷ OtherPath ∷ []
 
 -- "its first broken rule"
 unfoldable pub firstBroken : (Rule → Bool) → List Rule → Judged

@@ -21,14 +21,14 @@ use crate::types::Path;
 use crate::types::PathPart;
 use crate::types::Rule;
 use crate::types::TagDataType;
-use tools::vint::is_vint;
+use tools::element_id::is_element_id;
 
 // The rule's number in the interface.
 pub fn rule_number(rule: Rule) -> u64
     ensures { λ r. ⌜ r ≡ ruleNumber rule ⌝ }
 {
     match rule {
-        Rule::NotAVint => 31,
+        Rule::NotAnElementId => 31,
         Rule::Repeated => 32,
         Rule::GlobalInMaster => 33,
         Rule::NoMaster => 34,
@@ -51,7 +51,7 @@ pub fn checked_number(checked: Checked) -> u64
 fn allowed_id(id: u64) -> bool
     ensures { λ r. ⌜ r ≡ allowedId id ⌝ }
 {
-    is_vint(id)
+    is_element_id(id)
 }
 
 // Rule 32: whether one of the first n entries has this ID.
@@ -146,7 +146,7 @@ fn first_broken(entries: &[u64], parts: &[u64], i: usize) -> Judged
     let kind = spec.kind;
     let path = spec.path;
     if !allowed_id(id) {
-        return Judged::Breaks(Rule::NotAVint);
+        return Judged::Breaks(Rule::NotAnElementId);
     }
     if listed_before(entries, parts, id, i) {
         return Judged::Breaks(Rule::Repeated);

@@ -1,5 +1,6 @@
 pub mod Cases
 pub mod Ids
+pub mod ElementIds
 pub mod Headers
 pub mod NumberSizes
 pub mod Unique

@@ -10,5 +10,7 @@ pub mod Widening
 pub mod Signed
 pub mod Floats
 pub mod IsVint
+pub mod IdForms
+pub mod ElementIds
 pub mod Unique
 pub mod Computing

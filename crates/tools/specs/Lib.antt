@@ -3,6 +3,7 @@ pub mod Answers
 pub mod Bytes
 pub mod Vint
 pub mod Page
+pub mod ElementId
 pub mod Twos
 pub mod Integer
 pub mod SignedVint
