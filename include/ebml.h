@@ -87,6 +87,11 @@ uint64_t ebml_as_signed_vint_with_length(int64_t val, size_t width, uint8_t *out
  * else 0. */
 uint64_t ebml_is_vint(uint64_t val);
 
+/* 1 where `id` is an Element ID as RFC 8794 allows it, else 0: 1 to 8 bytes with the marker at its place, data bits
+ * neither all 0 nor all 1, and no shorter form. A1, 407F and 4E01 are; 0, 1, 7F, 80, FF, 4000, 407E and 7FFF are not.
+ * No other ID passes the table check (31). */
+uint64_t ebml_is_element_id(uint64_t id);
+
 /* The unsigned integer of 0 to 8 big-endian bytes into `out`; the result is 8. No byte at all is 0. Refusals: 6, 5. */
 uint64_t ebml_arr_to_u64(const uint8_t *arr, size_t arr_len, uint8_t *out, size_t out_len);
 
@@ -123,7 +128,8 @@ enum ebml_type {
 enum ebml_table_fault {
     EBML_TABLE_SHAPE = 10,           /* words left over, too many entries or parts, a path outside the parts, a word
                                       * out of its range */
-    EBML_RULE_NOT_A_VINT = 31,       /* the ID is not one that ebml_is_vint accepts */
+    EBML_RULE_NO_ELEMENT_ID = 31,    /* the ID is not one that ebml_is_element_id accepts */
+    EBML_RULE_NOT_A_VINT = 31,       /* the same under its former name */
     EBML_RULE_REPEATED = 32,         /* an earlier entry has this ID */
     EBML_RULE_GLOBAL_IN_MASTER = 33, /* a master's path holds a part (1, ..) */
     EBML_RULE_NO_MASTER = 34,        /* an ID in the path is no master of the table */
@@ -196,7 +202,7 @@ static inline const char *ebml_refusal_text(int number)
     case 21: return "a float that is not of 0, 4 or 8 bytes";
     case 23: return "the input ended inside an element";
     case 24: return "the table closes an element that is no master";
-    case 31: return "the table has an ID that no vint has";
+    case 31: return "the table has an ID that no file can hold";
     case 32: return "the table has an ID twice";
     case 33: return "a master's path in the table holds a global part";
     case 34: return "a path in the table names an ID that is no master of it";

@@ -1,4 +1,4 @@
-//! The table check of document 01, which the Rust does not have.
+//! The table check of document 01, rule 31 as document 02 has it; the Rust has none.
 
 use crate::table::{Part, Table};
 
@@ -21,7 +21,7 @@ impl Table {
     fn broken_rules(&self, place: usize) -> Vec<u64> {
         let entry = &self.entries[place];
         let holds = [
-            (31, is_vint(entry.id)),
+            (31, is_element_id(entry.id)),
             (32, self.entries[..place].iter().all(|earlier| earlier.id != entry.id)),
             (33, !entry.is_master || !entry.path.iter().any(Part::is_global)),
             (
@@ -53,6 +53,12 @@ fn ids(path: &[Part]) -> impl Iterator<Item = (usize, u64)> + '_ {
     })
 }
 
-fn is_vint(id: u64) -> bool {
-    (0..=9).any(|length| id.checked_shr(7 * length).unwrap_or(0) == 1)
+/// The IDs of each length lie between two limits: the least data is what a byte less does not hold but as all ones, and
+/// not 0; the greatest is all ones less 1.
+fn is_element_id(id: u64) -> bool {
+    (1..=8).any(|length| {
+        let marker = 1u64 << (7 * length);
+        let least = ((marker >> 7) - 1).max(1);
+        (marker + least..=2 * marker - 2).contains(&id)
+    })
 }

@@ -11,6 +11,7 @@ pub fn class(call: &str, answer: &str) -> String {
         ["wv" | "ws", value] => format!("{} {}", value.starts_with('-'), is_near_any_limit(value)),
         ["iv", value] => format!("{} {}", is_near_any_limit(value), value.len() / 2),
         ["vl", _] => String::new(),
+        ["idf", id] => id.len().to_string(),
         [name, input] => bytes(input).map_or_else(String::new, |input| bytes_shape(name, &input)),
         _ => String::new(),
     };

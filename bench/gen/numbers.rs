@@ -101,12 +101,13 @@ fn write(folder: &Path, name: &str, calls: impl IntoIterator<Item = String>) -> 
     script.finish()
 }
 
-/// Every input of up to two bytes, and the length page whole.
+/// Every input of up to two bytes, the length page whole, and every ID of up to two bytes.
 fn short() -> impl Iterator<Item = String> {
     ["rv", "rs", "au", "ai"]
         .into_iter()
         .flat_map(|name| short_inputs().map(move |input| read(name, &input)))
         .chain((0..=u8::MAX).map(|first| format!("vl {first}")))
+        .chain((0..=u16::MAX).map(|id| format!("idf {id:X}")))
 }
 
 fn short_inputs() -> impl Iterator<Item = Vec<u8>> {
@@ -121,6 +122,7 @@ fn limits(prng: &mut Prng) -> Vec<String> {
     calls.extend(signed_limits().into_iter().flat_map(signed_writes));
     calls.extend(vint_inputs(prng).iter().flat_map(|input| both("rv", "rs", input)));
     calls.extend(payloads(prng).iter().flat_map(|input| both("au", "ai", input)));
+    calls.extend(id_limits().iter().map(|id| format!("idf {id:X}")));
     calls
 }
 
@@ -182,6 +184,15 @@ fn vint_inputs(prng: &mut Prng) -> Vec<Vec<u8>> {
     inputs
 }
 
+/// The limits themselves, and each with the marker of every length that has room for it.
+fn id_limits() -> Vec<u64> {
+    let marked = (1..=8).flat_map(|length| limits_below(7 * length).map(move |data| data | 1 << (7 * length)));
+    let mut ids: Vec<u64> = unsigned_limits().into_iter().chain(marked).collect();
+    ids.sort_unstable();
+    ids.dedup();
+    ids
+}
+
 fn limits_below(bits: usize) -> impl Iterator<Item = u64> {
     unsigned_limits().into_iter().filter(move |value| value >> bits == 0)
 }
@@ -216,6 +227,7 @@ fn random(prng: &mut Prng) -> Vec<String> {
         calls.push(random_signed_write(prng));
         calls.push(format!("iv {}", prng.of_any_magnitude()));
     }
+    calls.extend((0..RANDOM_CALLS).map(|_| format!("idf {:X}", prng.of_any_magnitude())));
     calls
 }
 

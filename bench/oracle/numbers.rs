@@ -1,6 +1,6 @@
 //! The number calls: tools.rs and, on top of its answers, the gateway's C form.
 
-use crate::fields::{bytes, hex, signed, unsigned};
+use crate::fields::{bytes, hex, signed, unsigned, word};
 use crate::guard::guarded;
 use ebml_iterable::errors::tool::ToolError;
 use ebml_iterable::tools::{self, SignedVint, Vint};
@@ -44,6 +44,7 @@ pub fn answer(fields: &[&str]) -> Option<String> {
     match fields {
         ["g", call @ .., lent] => gateway(reply(call)?, bytes(lent)?),
         ["afb", payload] => Some(text(read_float(&bytes(payload)?), bits)),
+        ["idf", id] => Some(is_element_id(word(id)?)),
         ["vl", first] => Some(length_on_page(u8::try_from(unsigned(first)?).ok()?)),
         _ => Some(text(reply(fields)?, bits_or_nan)),
     }
@@ -81,6 +82,23 @@ fn length_on_page(first: u8) -> String {
         Reply::Refusal(1) => "0".to_string(),
         other => text(other, bits),
     }
+}
+
+/// Whether an ID's bytes are what the Rust reads as one vint and writes again, its data neither all 0 nor all 1.
+fn is_element_id(id: u64) -> String {
+    let all = id.to_be_bytes();
+    let octets = &all[all.iter().take_while(|byte| **byte == 0).count()..];
+    let form = match (octets, read_vint(octets)) {
+        ([], _) => false,
+        (_, Reply::Vint(Number::Unsigned(value), length)) => {
+            length == octets.len()
+                && value != 0
+                && value != (1 << (7 * length)) - 1
+                && matches!(as_vint(value), Reply::Written(written) if written == octets)
+        }
+        _ => false,
+    };
+    u8::from(form).to_string()
 }
 
 fn read_signed_vint(input: &[u8]) -> Reply {

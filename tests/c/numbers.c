@@ -97,6 +97,26 @@ static void writes(void)
     lend(); refuses("-1 in three bytes of two", ebml_as_signed_vint_with_length(-1, 3, out, 2), EBML_OUTPUT_TOO_SHORT);
 }
 
+/* Of each length L the IDs lie between two limits. */
+static void element_ids(void)
+{
+    for (int L = 1; L <= 8; L++) {
+        uint64_t marker = (uint64_t)1 << (7 * L);
+        uint64_t least = marker + (L == 1 ? 1 : (marker >> 7) - 1);
+        expect("an ID's data bits all 0", ebml_is_element_id(marker) == 0);
+        expect("not the shortest form", ebml_is_element_id(least - 1) == 0);
+        expect("the first ID of a length", ebml_is_element_id(least) == 1);
+        expect("the last ID of a length", ebml_is_element_id(2 * marker - 2) == 1);
+        expect("an ID's data bits all 1", ebml_is_element_id(2 * marker - 1) == 0);
+    }
+    expect("ID 0", ebml_is_element_id(0) == 0);
+    expect("ID 1", ebml_is_element_id(1) == 0);
+    expect("ID 7F", ebml_is_element_id(0x7F) == 0);
+    expect("ID 2^57", ebml_is_element_id((uint64_t)1 << 57) == 0);
+    expect("the greatest number", ebml_is_element_id(UINT64_MAX) == 0);
+    expect("ID 4E01", ebml_is_element_id(0x4E01) == 1);
+}
+
 static void conversions(void)
 {
     expect("is_vint 1", ebml_is_vint(1) == 1);
@@ -104,6 +124,7 @@ static void conversions(void)
     expect("is_vint 4E01", ebml_is_vint(0x4E01) == 1);
     expect("is_vint 0", ebml_is_vint(0) == 0);
     expect("is_vint 2", ebml_is_vint(2) == 0);
+    element_ids();
 
     lend(); gives("04 00 is 1024", ebml_arr_to_u64(N(4, 0), out, 12), 8, N(0, 0, 0, 0, 0, 0, 4, 0));
     lend(); gives("no byte is 0", ebml_arr_to_u64(none, 0, out, 8), 8, N(0, 0, 0, 0, 0, 0, 0, 0));

@@ -47,7 +47,7 @@ int main(void)
 
     expect("the table passes", ebml_check_table(WORDS(entries), WORDS(parts)) == 0);
     expect("no entry at all passes", ebml_check_table(none, 0, none, 0) == 0);
-    faults("31 at the first entry", changed(0, 2), EBML_RULE_NOT_A_VINT, 0);
+    faults("31 at the first entry", changed(0, 2), EBML_RULE_NO_ELEMENT_ID, 0);
     faults("32 at the third", changed(8, 0xA1), EBML_RULE_REPEATED, 2);
     faults("33 at the last", changed(13, EBML_MASTER), EBML_RULE_GLOBAL_IN_MASTER, 3);
     faults("34: Session no master, seen at Feed", changed(1, EBML_BINARY), EBML_RULE_NO_MASTER, 1);

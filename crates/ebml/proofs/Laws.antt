@@ -15,7 +15,7 @@ use Rattle.tools.specs.declared.vint.Written.{Written}
 use Rattle.table.specs.Check.{ruleNumber, checkTable}
 use Rattle.table.specs.declared.types.Checked.the-variants.{BadShape, Fault}
 use Rattle.table.specs.declared.types.Rule.{Rule}
-use Rattle.table.specs.declared.types.Rule.the-variants.{NotAnElementId, Repeated, GlobalInMaster, NoMaster, OtherPath}
+use Rattle.table.specs.declared.types.Rule.the-variants.{NoElementId, Repeated, GlobalInMaster, NoMaster, OtherPath}
 use Rattle.table.proofs.Entries.{length-table}
 use Rattle.table.proofs.Passed.{answered, fault-is}
 use Rattle.table.proofs.Shaped.{shaped}
@@ -50,7 +50,7 @@ handed result v out {w} {r} {o} e g = go (decLe 8 (length out))
 -- ---- the table check
 
 pub rule-small : (r : Rule) → ruleNumber r ≤ 35
-rule-small NotAnElementId = omega arith
+rule-small NoElementId = omega arith
 rule-small Repeated = omega arith
 rule-small GlobalInMaster = omega arith
 rule-small NoMaster = omega arith

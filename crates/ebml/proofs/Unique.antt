@@ -22,6 +22,8 @@ use Rattle.ebml.proofs.numbers.ebml_as_signed_vint_with_length.Reads as
 use Rattle.ebml.proofs.numbers.ebml_as_signed_vint_with_length.Kinds as ebml-as-signed-vint-with-length-kinds
 use Rattle.ebml.proofs.numbers.ebml_is_vint.Reads as ebml-is-vint
 use Rattle.ebml.proofs.numbers.ebml_is_vint.Kinds as ebml-is-vint-kinds
+use Rattle.ebml.proofs.numbers.ebml_is_element_id.Reads as ebml-is-element-id
+use Rattle.ebml.proofs.numbers.ebml_is_element_id.Kinds as ebml-is-element-id-kinds
 use Rattle.ebml.proofs.numbers.ebml_arr_to_u64.Reads as ebml-arr-to-u64
 use Rattle.ebml.proofs.numbers.ebml_arr_to_u64.Kinds as ebml-arr-to-u64-kinds
 use Rattle.ebml.proofs.numbers.ebml_arr_to_i64.Reads as ebml-arr-to-i64
@@ -51,6 +53,9 @@ ebml-as-signed-vint-with-length-one κs a = one-answer (λ r e p. given p)
 
 pub ebml-is-vint-one : (κs : Lfts 0) (a : Dens κs ebml-is-vint-kinds.ps) → OneAnswer (ebml-is-vint.Post κs a) answer
 ebml-is-vint-one κs a = one-answer (λ r e p. p)
+
+pub ebml-is-element-id-one : (κs : Lfts 0) (a : Dens κs ebml-is-element-id-kinds.ps) → OneAnswer (ebml-is-element-id.Post κs a) answer
+ebml-is-element-id-one κs a = one-answer (λ r e p. p)
 
 pub ebml-arr-to-u64-one : (κs : Lfts 2) (a : Dens κs ebml-arr-to-u64-kinds.ps) → OneAnswer (ebml-arr-to-u64.Post κs a) (answerAnd (λ e. now (e .1 .0)))
 ebml-arr-to-u64-one κs a = one-answer (λ r e p. given p)

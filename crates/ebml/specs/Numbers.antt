@@ -57,7 +57,7 @@ codeOf (written.Refused e) = refusalOf e
 abbrev pub writtenOut : Written × List ℕ → ℕ × List ℕ
 writtenOut p = (codeOf (p .0), p .1)
 
--- "`is_vint` gives 1 or 0"
+-- "`is_vint` gives 1 or 0"; so does `is_element_id`
 abbrev pub yesNo : Bool → ℕ
 yesNo b = cond b 1 0
 

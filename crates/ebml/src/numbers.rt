@@ -3,6 +3,7 @@
 ghost use mathlib.Core.Path.{_≡_};
 ghost use Rattle.tools.specs.Answers.{Gives};
 ghost use Rattle.tools.specs.Vint.{readVint, asVint, asVintWithLength, isVint};
+ghost use Rattle.tools.specs.ElementId.{isElementId};
 ghost use Rattle.tools.specs.SignedVint.{readSignedVint, asSignedVint, asSignedVintWithLength};
 ghost use Rattle.tools.specs.Integer.{arrToU64, arrToI64};
 ghost use Rattle.tools.specs.Float.{arrToF64};
@@ -11,6 +12,7 @@ use crate::answers::code_of;
 use crate::answers::hand_out;
 use crate::answers::hand_out_signed;
 use crate::answers::refusal;
+use tools::element_id::is_element_id;
 use tools::float::ArrToF64;
 use tools::float::arr_to_f64;
 use tools::integer::ArrToI64;
@@ -89,6 +91,14 @@ pub extern "C" fn ebml_is_vint(val: u64) -> u64
     ensures { λ r. ⌜ r ≡ yesNo (isVint val) ⌝ }
 {
     if is_vint(val) { 1 } else { 0 }
+}
+
+// 1 where a number is an Element ID as RFC 8794 allows it, else 0.
+#[no_mangle]
+pub extern "C" fn ebml_is_element_id(id: u64) -> u64
+    ensures { λ r. ⌜ r ≡ yesNo (isElementId id) ⌝ }
+{
+    if is_element_id(id) { 1 } else { 0 }
 }
 
 // The number of up to 8 bytes.

@@ -8,6 +8,7 @@ use script_text::reading::Signed;
 use script_text::reading::read_decimal;
 use script_text::reading::read_hex;
 use script_text::reading::read_signed;
+use script_text::reading::read_word;
 use script_text::words::same;
 use script_text::words::word_end;
 
@@ -23,6 +24,8 @@ pub enum Call {
     IsVint(u64),
     // The length page's entry for a first byte; C has no such call.
     LengthOnPage(u8),
+    // The form of an ID; the format has no line for its C call.
+    IsElementId(u64),
     Write(Vint),
     Bad,
 }
@@ -83,6 +86,13 @@ fn length_on_page(word: &[u8]) -> Call {
     Call::LengthOnPage(n as u8)
 }
 
+fn is_element_id(word: &[u8]) -> Call {
+    let Number::Value(id) = read_word(word) else {
+        return Call::Bad;
+    };
+    Call::IsElementId(id)
+}
+
 fn as_vint(word: &[u8]) -> Call {
     let Number::Value(n) = read_decimal(word) else {
         return Call::Bad;
@@ -139,6 +149,9 @@ fn call_on_numbers(name: &[u8], words: &[u8]) -> Call {
     }
     if same(name, b"vl") {
         return length_on_page(words);
+    }
+    if same(name, b"idf") {
+        return is_element_id(words);
     }
     if same(name, b"wv") {
         return as_vint(words);

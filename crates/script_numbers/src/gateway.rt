@@ -47,6 +47,7 @@ fn outcome_of(call: Call, bytes: &[u8], lent: &mut [u8]) -> Outcome {
         Call::ArrToF64Bits => Outcome::NoCall,
         Call::IsVint(n) => Outcome::Number(ebml_is_vint(n)),
         Call::LengthOnPage(_) => Outcome::NoCall,
+        Call::IsElementId(_) => Outcome::NoCall,
         Call::Write(v) => Outcome::Number(write(v, lent)),
         Call::Bad => Outcome::NoCall,
     }

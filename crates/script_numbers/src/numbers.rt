@@ -16,6 +16,7 @@ use script_text::answers::put_signed;
 use script_text::answers::put_text;
 use script_text::answers::refused;
 use script_text::answers::yes_or_no;
+use tools::element_id::is_element_id;
 use tools::errors::ToolError;
 use tools::errors::number_and_place;
 use tools::float::ArrToF64;
@@ -165,6 +166,7 @@ fn answer_call(call: Call, bytes: &[u8], out: &mut [u8]) -> usize
         Call::ArrToF64 => f64_read(arr_to_f64(bytes), out),
         Call::ArrToF64Bits => bits_read(arr_to_f64(bytes), out),
         Call::IsVint(n) => yes_or_no(is_vint(n), out),
+        Call::IsElementId(id) => yes_or_no(is_element_id(id), out),
         Call::LengthOnPage(first) => put_decimal(length_on_page(first) as u64, out, 0),
         Call::Write(v) => answer_vint(v, out),
         Call::Bad => bad_line(out),

@@ -11,7 +11,7 @@ use Rattle.table.specs.Check.{checkTable}
 use Rattle.table.specs.declared.types.TagDataType.the-variants.{Untyped, Master, UnsignedInt, Binary, Float}
 use Rattle.table.specs.declared.types.Bound.the-variants.{NotGiven}
 use Rattle.table.specs.declared.types.PathPart.the-variants.{Id, Global}
-use Rattle.table.specs.declared.types.Rule.the-variants.{NotAnElementId, Repeated, GlobalInMaster, NoMaster, OtherPath}
+use Rattle.table.specs.declared.types.Rule.the-variants.{NoElementId, Repeated, GlobalInMaster, NoMaster, OtherPath}
 use Rattle.table.specs.declared.types.Checked.the-variants.{Passed, Fault}
 
 -- what is looked up in the bench table
@@ -42,8 +42,8 @@ pub record Checks : Type 0 where
   pub bench-passes : checkTable benchEntries benchParts ≡ Passed
   pub empty-passes : checkTable [] [] ≡ Passed
   -- 1 is accepted by `is_vint` and is no Element ID; 407F is one, in the shortest form that its data has
-  pub one : checkTable (1 ∷ 0 ∷ 0 ∷ 0 ∷ []) [] ≡ Fault NotAnElementId 0
-  pub two-bytes : checkTable (0x407F ∷ 0 ∷ 0 ∷ 0 ∷ 0x407E ∷ 0 ∷ 0 ∷ 0 ∷ []) [] ≡ Fault NotAnElementId 1
+  pub one : checkTable (1 ∷ 0 ∷ 0 ∷ 0 ∷ []) [] ≡ Fault NoElementId 0
+  pub two-bytes : checkTable (0x407F ∷ 0 ∷ 0 ∷ 0 ∷ 0x407E ∷ 0 ∷ 0 ∷ 0 ∷ []) [] ≡ Fault NoElementId 1
   pub twice : checkTable (0x81 ∷ 0 ∷ 0 ∷ 0 ∷ 0x81 ∷ 1 ∷ 0 ∷ 0 ∷ []) [] ≡ Fault Repeated 1
   pub global : checkTable (0x81 ∷ 0 ∷ 2 ∷ 1 ∷ []) parts ≡ Fault GlobalInMaster 0
   pub no-entry : checkTable (0x82 ∷ 0 ∷ 0 ∷ 1 ∷ []) parts ≡ Fault NoMaster 0

@@ -15,7 +15,7 @@ use Rattle.table.specs.declared.types.PathPart.{PathPart}
 use Rattle.table.specs.declared.types.PathPart.the-variants.{Id, Global}
 use Rattle.table.specs.declared.types.Spec.{Spec}
 use Rattle.table.specs.declared.types.Rule.{Rule}
-use Rattle.table.specs.declared.types.Rule.the-variants.{NotAnElementId, Repeated, GlobalInMaster, NoMaster, OtherPath}
+use Rattle.table.specs.declared.types.Rule.the-variants.{NoElementId, Repeated, GlobalInMaster, NoMaster, OtherPath}
 use Rattle.table.specs.declared.types.Judged.the-variants.{Sound, Breaks}
 use Rattle.table.specs.declared.types.Checked.the-variants.{Fault}
 use Rattle.table.proofs.Entries.{id-at, path-at}
@@ -43,7 +43,7 @@ own-end t path i h = rw (drop-of-length-le path h)
 -- ---- the rules of one entry, over its words
 
 module _ (es ps : List ℕ) (i : ℕ) (h : i < length es / 4) where
-  pub kept-31 : keeps (tableOf es ps) i (getD (tableOf es ps) i unlisted) NotAnElementId ≡ allowedId (getD es (4 * i) 0)
+  pub kept-31 : keeps (tableOf es ps) i (getD (tableOf es ps) i unlisted) NoElementId ≡ allowedId (getD es (4 * i) 0)
   unfolding keeps
   kept-31 = ap allowedId (id-at es ps i h)
 

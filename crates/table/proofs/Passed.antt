@@ -19,7 +19,7 @@ use Rattle.table.specs.Check.{ruleNumber, allowedId, onlyIds, keeps, rul
 use Rattle.table.specs.Passed.{at, Masters, OwnPaths, Kept, PassedTable, LowestFault}
 use Rattle.table.specs.declared.types.TagDataType.the-variants.{Master}
 use Rattle.table.specs.declared.types.Rule.{Rule}
-use Rattle.table.specs.declared.types.Rule.the-variants.{NotAnElementId, Repeated, GlobalInMaster, NoMaster, OtherPath}
+use Rattle.table.specs.declared.types.Rule.the-variants.{NoElementId, Repeated, GlobalInMaster, NoMaster, OtherPath}
 use Rattle.table.specs.declared.types.Judged.{Judged}
 use Rattle.table.specs.declared.types.Judged.the-variants.{Sound, Breaks}
 use Rattle.table.specs.declared.types.Checked.{Checked}
@@ -60,7 +60,7 @@ first-of kept (r ∷ rs) up = go (kept r) refl (firstBroken kept rs) (first-of k
 -- ---- one entry
 
 in-rules : (r : Rule) → List·Memᴰ r rules
-in-rules NotAnElementId = List·Memᴰ·head refl
+in-rules NoElementId = List·Memᴰ·head refl
 in-rules Repeated = List·Memᴰ·tail (List·Memᴰ·head refl)
 in-rules GlobalInMaster = List·Memᴰ·tail (List·Memᴰ·tail (List·Memᴰ·head refl))
 in-rules NoMaster = List·Memᴰ·tail (List·Memᴰ·tail (List·Memᴰ·tail (List·Memᴰ·head refl)))
@@ -112,7 +112,7 @@ all-checked : (t : List Entry) (c : Checked) → checkFrom t (length t) 0 ≡ c 
 all-checked t c e = subst (Checks t (length t) 0) e (checks t (length t) 0)
 
 passed-kept : (t : List Entry) → PassedTable t → (i : ℕ) → i < length t → (r : Rule) → Kept t i r
-passed-kept t p i h NotAnElementId = p .allowed i h
+passed-kept t p i h NoElementId = p .allowed i h
 passed-kept t p i h Repeated = λ j l q. let z : j ≡ i = p .once j i (omega arith) h q in omega arith
 passed-kept t p i h GlobalInMaster = p .of-ids i h
 passed-kept t p i h NoMaster = p .masters i h
@@ -122,11 +122,11 @@ passed-kept t p i h OtherPath = p .own-paths i h
 
 ruleOf : ℕ → Rule
 ruleOf n =
-    cond (eqb n 31) NotAnElementId (cond (eqb n 32) Repeated (cond (eqb n 33) GlobalInMaster (cond (eqb n 34) NoMaster OtherPath)))
+    cond (eqb n 31) NoElementId (cond (eqb n 32) Repeated (cond (eqb n 33) GlobalInMaster (cond (eqb n 34) NoMaster OtherPath)))
 
 back : (r : Rule) → ruleOf (ruleNumber r) ≡ r
 unfolding ruleOf
-back NotAnElementId = refl
+back NoElementId = refl
 back Repeated = refl
 back GlobalInMaster = refl
 back NoMaster = refl
@@ -170,7 +170,7 @@ module _ (es ps : List ℕ) where
   -- a table that passes has the facts
   pub passed-gives : checkTable es ps ≡ Passed → PassedTable (tableOf es ps)
   passed-gives e = record {
-    allowed = λ i h. kept i h NotAnElementId;
+    allowed = λ i h. kept i h NoElementId;
     once = λ i j hi hj q. go i j hi hj q (decLe (suc i) j) (decLe (suc j) i);
     of-ids = λ i h. kept i h GlobalInMaster;
     masters = λ i h. kept i h NoMaster;

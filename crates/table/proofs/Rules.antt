@@ -17,7 +17,7 @@ use Rattle.table.specs.declared.types.TagDataType.the-variants.{Untyped,
 use Rattle.table.specs.declared.types.PathPart.{PathPart}
 use Rattle.table.specs.declared.types.PathPart.the-variants.{Id, Global}
 use Rattle.table.specs.declared.types.Rule.{Rule}
-use Rattle.table.specs.declared.types.Rule.the-variants.{NotAnElementId, Repeated, GlobalInMaster, NoMaster, OtherPath}
+use Rattle.table.specs.declared.types.Rule.the-variants.{NoElementId, Repeated, GlobalInMaster, NoMaster, OtherPath}
 use Rattle.basics.proofs.Every.{every-member, every-of, any-none, any-of-none}
 use Rattle.table.proofs.Same.{path-same, path-self}
 
@@ -99,7 +99,7 @@ module _ (t : List Entry) (i : ℕ) (h : i < length t) where
 
   pub kept-sound : (r : Rule) → keeps t i (at t i) r ≡ true → Kept t i r
   unfolding keeps listed
-  kept-sound NotAnElementId e = e
+  kept-sound NoElementId e = e
   kept-sound Repeated e = λ j k.
       let l : j < length (take i t) = simp length-take (omega arith) in
       let none = any-none hasIt (take i t) unlisted (not-true (listed (at t i .id) (take i t)) e) j l in
@@ -110,7 +110,7 @@ module _ (t : List Entry) (i : ℕ) (h : i < length t) where
 
   pub kept-complete : (r : Rule) → Kept t i r → keeps t i (at t i) r ≡ true
   unfolding keeps listed
-  kept-complete NotAnElementId f = f
+  kept-complete NoElementId f = f
   kept-complete Repeated f = ap not (any-of-none hasIt (take i t) unlisted each)
     where
       each : (j : ℕ) → j < length (take i t) → hasIt (getD (take i t) j unlisted) ≡ false

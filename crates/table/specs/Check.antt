@@ -13,7 +13,7 @@ use Rattle.table.specs.declared.types.TagDataType.{TagDataType}
 use Rattle.table.specs.declared.types.PathPart.{PathPart}
 use Rattle.table.specs.declared.types.PathPart.the-variants.{Id, Global}
 use Rattle.table.specs.declared.types.Rule.{Rule}
-use Rattle.table.specs.declared.types.Rule.the-variants.{NotAnElementId, Repeated, GlobalInMaster, NoMaster, OtherPath}
+use Rattle.table.specs.declared.types.Rule.the-variants.{NoElementId, Repeated, GlobalInMaster, NoMaster, OtherPath}
 use Rattle.table.specs.declared.types.Judged.{Judged}
 use Rattle.table.specs.declared.types.Judged.the-variants.{Sound, Breaks}
 use Rattle.table.specs.declared.types.Checked.{Checked}
@@ -23,7 +23,7 @@ use Rattle.table.specs.declared.types.Checked.the-variants.{BadShape, Pa
 
 -- the rules are 31 to 35
 abbrev pub ruleNumber : Rule → ℕ
-ruleNumber NotAnElementId = 31
+ruleNumber NoElementId = 31
 ruleNumber Repeated = 32
 ruleNumber GlobalInMaster = 33
 ruleNumber NoMaster = 34
@@ -76,7 +76,7 @@ ownPaths t before (Global min max ∷ rest) = true
 
 -- whether e, as entry i of the table t, keeps a rule; 32: "no earlier entry has this ID"
 unfoldable pub keeps : List Entry → ℕ → Entry → Rule → Bool
-keeps t i e NotAnElementId = allowedId (e .id)
+keeps t i e NoElementId = allowedId (e .id)
 keeps t i e Repeated = not (listed (e .id) (take i t))
 keeps t i e GlobalInMaster = masterOfIds (e .kind) (e .path)
 keeps t i e NoMaster = allMasters t (e .path)
@@ -86,7 +86,7 @@ keeps t i e OtherPath = ownPaths t [] (e .path)
 
 -- the rules in their order
 abbrev pub rules : List Rule
-rules = NotAnElementId ∷ Repeated ∷ GlobalInMaster ∷ NoMaster ∷ OtherPath ∷ []
+rules = NoElementId ∷ Repeated ∷ GlobalInMaster ∷ NoMaster ∷ OtherPath ∷ []
 
 -- "its first broken rule"
 unfoldable pub firstBroken : (Rule → Bool) → List Rule → Judged

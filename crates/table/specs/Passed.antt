@@ -11,7 +11,7 @@ use Rattle.table.specs.declared.types.TagDataType.the-variants.{Master}
 use Rattle.table.specs.declared.types.PathPart.{PathPart}
 use Rattle.table.specs.declared.types.PathPart.the-variants.{Id}
 use Rattle.table.specs.declared.types.Rule.{Rule}
-use Rattle.table.specs.declared.types.Rule.the-variants.{NotAnElementId, Repeated, GlobalInMaster, NoMaster, OtherPath}
+use Rattle.table.specs.declared.types.Rule.the-variants.{NoElementId, Repeated, GlobalInMaster, NoMaster, OtherPath}
 
 -- entry i of a table
 abbrev pub at : List Entry → ℕ → Entry
@@ -28,7 +28,7 @@ OwnPaths t pre path =
 
 -- what each rule says of entry i
 abbrev pub Kept : List Entry → ℕ → Rule → Type 0
-Kept t i NotAnElementId = allowedId (at t i .id) ≡ true
+Kept t i NoElementId = allowedId (at t i .id) ≡ true
 Kept t i Repeated = (j : ℕ) → j < i → at t j .id ≡ at t i .id → ⊥
 Kept t i GlobalInMaster = at t i .kind ≡ Master → onlyIds (at t i .path) ≡ true
 Kept t i NoMaster = Masters t (at t i .path)

@@ -28,7 +28,7 @@ pub fn rule_number(rule: Rule) -> u64
     ensures { λ r. ⌜ r ≡ ruleNumber rule ⌝ }
 {
     match rule {
-        Rule::NotAnElementId => 31,
+        Rule::NoElementId => 31,
         Rule::Repeated => 32,
         Rule::GlobalInMaster => 33,
         Rule::NoMaster => 34,
@@ -146,7 +146,7 @@ fn first_broken(entries: &[u64], parts: &[u64], i: usize) -> Judged
     let kind = spec.kind;
     let path = spec.path;
     if !allowed_id(id) {
-        return Judged::Breaks(Rule::NotAnElementId);
+        return Judged::Breaks(Rule::NoElementId);
     }
     if listed_before(entries, parts, id, i) {
         return Judged::Breaks(Rule::Repeated);

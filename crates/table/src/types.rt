@@ -37,7 +37,7 @@ pub struct Spec {
 
 // The rules of the table check, in the order in which they are tested.
 pub enum Rule {
-    NotAnElementId,
+    NoElementId,
     Repeated,
     GlobalInMaster,
     NoMaster,

@@ -8,7 +8,7 @@ use lib.ListN.{getD}
 use Rattle.table.specs.Table.{Entry, tableOf, unlisted}
 use Rattle.table.specs.Check.{keeps, firstBroken}
 use Rattle.table.specs.declared.types.Rule.{Rule}
-use Rattle.table.specs.declared.types.Rule.the-variants.{NotAnElementId, Repeated, GlobalInMaster, NoMaster, OtherPath}
+use Rattle.table.specs.declared.types.Rule.the-variants.{NoElementId, Repeated, GlobalInMaster, NoMaster, OtherPath}
 use Rattle.table.proofs.Judging.{kept-31, kept-32, kept-33, kept-34, kept-35}
 use borrow.Author.Needs.{needs}
 use Rattle.table.proofs.check.first_broken.Statement.{statement}
@@ -21,10 +21,10 @@ abbrev kept : tie.Start → Rule → Bool
 kept s = keeps (table s) (s .args .i) (getD (table s) (s .args .i) unlisted)
 
 -- each rule, where its routine has answered and where the entry kept it
-k31 : (c : tie.After-allowed-id) → kept (c .before .before .before .before .before .before) NotAnElementId ≡ c .allowed-id .result
+k31 : (c : tie.After-allowed-id) → kept (c .before .before .before .before .before .before) NoElementId ≡ c .allowed-id .result
 k31 c = kept-31 _ _ _ (c .before .before .before .before .before .before .pre) ∙ sym (c .allowed-id .ensures)
 
-y31 : (c : tie.Else1) → kept (c .before .before .before .before .before .before .before) NotAnElementId ≡ true
+y31 : (c : tie.Else1) → kept (c .before .before .before .before .before .before .before) NoElementId ≡ true
 y31 c = k31 (c .before) ∙ not-false _ (c .if1 .left)
 
 k32 : (c : tie.After-listed-before) → kept (c .before .before .before .before .before .before .before .before) Repeated ≡ not (c .listed-before .result)
