@@ -81,7 +81,8 @@ step3-batch d n h = first-full (d .position) (opens d) (omega arith)
 
 -- ---- 10
 
-abbrev unknown : OpenTag → Bool
+-- the size of a master is not known
+abbrev pub unknown : OpenTag → Bool
 unknown m = not (m .known)
 
 unknown-first : (p : ℕ) (l : List OpenTag) → every unknown l ≡ true → endedBy p (firstKnown l) ≡ true

@@ -24,6 +24,8 @@ pub mod WholeElements
 pub mod CutRecords
 pub mod CutExamples
 pub mod Demand3
+pub mod InPlace
+pub mod Appears
 pub mod EmptyPlaces
 pub mod Needed
 pub mod Computing

@@ -75,7 +75,8 @@ module _ (ps : List ℕ) (t : List Entry) (d : TagDecoder) where
       go (header.Refused x) = unfold noted in record { state = refl }
       go (header.Header h) = header-leaves h
 
-settled-step7 : (t : List Entry) (d : TagDecoder) (h : TagHeader) → d .settled ≡ true → step7 t d h ≡ NoNote
+-- on a settled record no header leaves a note
+pub settled-step7 : (t : List Entry) (d : TagDecoder) (h : TagHeader) → d .settled ≡ true → step7 t d h ≡ NoNote
 settled-step7 t d h u = go (d .settled) u
   where
     go : (b : Bool) → b ≡ true → cond (not b && isTyped (h .kind) && onlyIds (pathOf t (h .id))) (Settle (h .path)) NoNote ≡ NoNote

@@ -4,4 +4,5 @@ pub mod History
 pub mod Promises
 pub mod Results
 pub mod CutRecords
+pub mod Appearing
 pub mod Demand3

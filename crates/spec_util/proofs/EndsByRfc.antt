@@ -4,7 +4,7 @@
 use Prim.Native.Nat.{ℕ, suc, _-_, _<_}
 use mathlib.Core.Path.{_≡_, refl, sym, ap, ap₂, _∙_}
 use mathlib.Core.Bool.{Bool, true, false, false≢true, true≢false, not, _&&_, _||_, or-true}
-use mathlib.Core.List.{List, [], _∷_, _++_, List·Memᴰ, List·Memᴰ·head, List·Memᴰ·tail}
+use mathlib.Core.List.{List, [], _∷_, _++_, List·Memᴰ, List·Memᴰ·head, List·Memᴰ·tail, Memᴰ·append-left, Memᴰ·append-right}
 use mathlib.Core.Logic.{_↔_, _⊎_, inl, inr, ⊎-elim}
 use borrow.Author.Tests.{not-true, eq-eqb, eqb-true}
 use native.Mathlib.Omega.{arith}
@@ -259,3 +259,27 @@ module _ (es ps : List ℕ) where
         from e =
             let b = both (isTyped (dataTypeOf t id)) _ e in
             rfc-complete t master id (ends-agree (rw (b .left)) .0 (b .right))
+
+  -- an element whose path is all IDs ends none of the masters that its path names
+  module _ (passed : checkTable es ps ≡ Passed) (id : ℕ) (typed : isTyped (dataTypeOf t id) ≡ true) (ids : onlyIds (pathOf t id) ≡ true) where
+    pub ends-no-parent : (before : List PathPart) (x : ℕ) (after : List PathPart) → pathOf t id ≡ before ++ Id x ∷ after → isEndedBy t x id ≡ false
+    unfolding untypedAtRoot onlyIds
+    ends-no-parent before x after q = go (isEndedBy t x id) refl
+      where
+        named : PassedTable t
+        named = passed-gives es ps passed
+
+        parent : IsParentOf t x id
+        parent = rw q (Memᴰ·append-right before (List·Memᴰ·head refl))
+
+        above : pathOf t x ≡ before
+        above = prefix-path t named id before x after q (every-front isId before (Id x ∷ after) (rw q at ids))
+
+        never : EndsUnknownSize t x id → ⊥
+        never (a-parent element k) = not-own t named id (rw q (Memᴰ·append-left (Id x ∷ after) (rw above at k)))
+        never (a-sibling element n s) = n parent
+        never (a-root element e) = let l = ap length (sym q ∙ e) in omega (arith, simp length-append at l)
+
+        go : (b : Bool) → isEndedBy t x id ≡ b → isEndedBy t x id ≡ false
+        go true e = absurd (never (ends-agree passed x id (path-masters t named id x parent) (rw typed) .0 e))
+        go false e = e

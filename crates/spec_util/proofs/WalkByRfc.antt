@@ -245,10 +245,15 @@ module _ (t : List Entry) (id : ℕ) (ms : List OpenTag) where
       let e = walk-names g (known-stay k) in
       (λ v. names-sound _ _ (sym e ∙ v), λ p. e ∙ names-complete _ _ p)
 
-  -- and one whose path is all IDs exactly where the open masters are that path
+  -- one whose path is all IDs is accepted in masters that stay open exactly where they are that path
+  pub accepted-in-open : onlyIds (pathOf t id) ≡ true → every (staysOpen t id) ms ≡ true
+      → (validateTagPath t id ms ≡ true) ↔ (map (λ (m : OpenTag). m .id) ms ≡ pathIds (pathOf t id))
+  accepted-in-open o s =
+      let e = walk-names (ids-last _ o) s in
+      let ids = names-ids (pathOf t id) (map (λ (m : OpenTag). m .id) ms) o in
+      (λ v. ids .0 (names-sound _ _ (sym e ∙ v)), λ q. e ∙ names-complete _ _ (ids .1 q))
+
+  -- so it is in masters of known size
   pub accepted-in-its-path : onlyIds (pathOf t id) ≡ true → every (λ (m : OpenTag). m .known) ms ≡ true
       → (validateTagPath t id ms ≡ true) ↔ (map (λ (m : OpenTag). m .id) ms ≡ pathIds (pathOf t id))
-  accepted-in-its-path o k =
-      let named = accepted-where-named (ids-last _ o) k in
-      let ids = names-ids (pathOf t id) (map (λ (m : OpenTag). m .id) ms) o in
-      (λ v. ids .0 (named .0 v), λ e. named .1 (ids .1 e))
+  accepted-in-its-path o k = accepted-in-open o (known-stay k)

@@ -1,5 +1,5 @@
 -- What a table that passed says of an ID that is looked up. Assumes nothing.
-use Prim.Native.Nat.{ℕ}
+use Prim.Native.Nat.{ℕ, _<_}
 use mathlib.Core.Path.{_≡_, refl, sym, ap, _∙_}
 use mathlib.Core.Bool.{Bool, true, false, cond, and-eq-true-iff}
 use mathlib.Core.List.{List, [], _∷_, _++_, List·Memᴰ, List·Memᴰ·head, List·Memᴰ·tail, List·Memᴰ·not-nil}
@@ -13,8 +13,8 @@ use Rattle.table.specs.Check.{allowedId, isId, onlyIds}
 use Rattle.table.specs.declared.types.TagDataType.the-variants.{Untyped, Master}
 use Rattle.table.specs.declared.types.PathPart.{PathPart}
 use Rattle.table.specs.declared.types.PathPart.the-variants.{Id}
-use Rattle.table.proofs.Entries.{for-every}
-use Rattle.table.specs.Passed.{Masters, OwnPaths, PassedTable}
+use Rattle.table.proofs.Entries.{first-entry, for-every}
+use Rattle.table.specs.Passed.{at, Masters, OwnPaths, PassedTable}
 use Rattle.table.proofs.Rules.{no-part}
 
 -- an ID with a type has an entry of its own
@@ -45,6 +45,11 @@ front-ids (p ∷ before) rest e =
     and-eq-true-iff (isId p) (onlyIds before) .1 (both .0, front-ids before rest (both .1))
 
 module _ (t : List Entry) (passed : PassedTable t) where
+  -- each entry is the one that counts for its ID
+  pub entry-counts : (i : ℕ) → i < length t → entryFor t (at t i .id) ≡ at t i
+  entry-counts i h =
+      first-entry t (at t i .id) i (omega arith) (λ j l e. let z : j ≡ i = passed .once j i (omega arith) h e in omega arith) (λ _. refl)
+
   pub typed-allowed : (id : ℕ) → (dataTypeOf t id ≡ Untyped → ⊥) → allowedId id ≡ true
   typed-allowed id n =
       let each : Entry → Type 0 = λ e. (e .kind ≡ Untyped → ⊥) → allowedId (e .id) ≡ true in

@@ -39,7 +39,7 @@ module _ (es ps : List ℕ) where
   id-at i h = ap (λ (e : Entry). e .id) (table-at i h)
 
 -- the first entry with an ID is what is looked up
-first-entry : (t : List Entry) (id r : ℕ) → r ≤ length t → ((j : ℕ) → j < r → getD t j unlisted .id ≡ id → ⊥)
+pub first-entry : (t : List Entry) (id r : ℕ) → r ≤ length t → ((j : ℕ) → j < r → getD t j unlisted .id ≡ id → ⊥)
     → (r < length t → getD t r unlisted .id ≡ id) → entryFor t id ≡ getD t r unlisted
 unfolding entryFor
 first-entry [] id r l none here = sym (List·getD-eq-default [] unlisted {n = r} (omega arith))
@@ -126,12 +126,13 @@ word-typed word =
     let typed : TagDataType → Type 0 = λ k. isTyped k ≡ true in
     either typed (eqb word 0) _ _ refl (either typed (eqb word 1) _ _ refl (either typed (eqb word 2) _ _ refl (either typed (eqb word 3) _ _ refl (either typed (eqb word 4) _ _ refl refl))))
 
+-- so an entry has a type
+pub typed-at : (es ps : List ℕ) (i : ℕ) → i < length (tableOf es ps) → isTyped (getD (tableOf es ps) i unlisted .kind) ≡ true
+unfolding isTyped entryOf
+typed-at es ps i h = rw (table-at es ps i (rw (length-table es ps) at h)) (word-typed (getD es (4 * i + 1) 0))
+
 -- an ID without a type has the empty path
 pub untyped-path : (es ps : List ℕ) (id : ℕ) → isTyped (dataTypeOf (tableOf es ps) id) ≡ false → pathOf (tableOf es ps) id ≡ []
-unfolding isTyped entryOf
 untyped-path es ps id =
     for-every (λ e. isTyped (e .kind) ≡ false → e .path ≡ []) (tableOf es ps) (λ u. refl)
-    (λ i h u. absurd (true≢false (sym (typed-at i (rw (length-table es ps) at h)) ∙ u))) id
-  where
-    typed-at : (i : ℕ) → i < length es / 4 → isTyped (getD (tableOf es ps) i unlisted .kind) ≡ true
-    typed-at i h = rw (table-at es ps i h) (word-typed (getD es (4 * i + 1) 0))
+    (λ i h u. absurd (true≢false (sym (typed-at es ps i h) ∙ u))) id

@@ -64,6 +64,14 @@ first-of-id {x} {n} octets i = go (i .shape)
         let f = first-octet octets vint in
         record { some = vint .at-least-1; width = id-vint (getD octets 0 0) (f .not-zero) ∙ f .width }
 
+-- an ID has at most 8 octets
+pub id-at-most-8 : {x n : ℕ} {octets : List ℕ} → IsId x n octets → n ≤ 8
+id-at-most-8 {x} {n} {octets} i = go (i .shape)
+  where
+    go : (octets ≡ 0 ∷ []) ⊎ ((v : ℕ) × IsVint n v octets) → n ≤ 8
+    go (inl e) = omega (arith, i .count, ap length e)
+    go (inr (v, vint)) = vint .at-most-8
+
 -- an ID that stands at the front is read
 pub id-complete : (s : List ℕ) (x n : ℕ) → IsId x n (take n s) → readTagId s ≡ id.TagId x n
 id-complete s x n i =

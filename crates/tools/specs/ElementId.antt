@@ -1,5 +1,5 @@
--- Element IDs: RFC 8794, section 5, and document 02, "The table check passes IDs that no file can hold", over the number
--- of bytes L.
+-- Element IDs: RFC 8794, section 5, and document 02, "The table check passes IDs that no file can hold", over the
+-- number of bytes L.
 use Prim.Native.Nat.{ℕ, _-_, _*_, _^_, _<_}
 use mathlib.Core.Bool.{Bool, true, false, not, _&&_}
 use mathlib.Core.Path.{_≡_}
@@ -8,9 +8,9 @@ use lib.Dec.{leb, ltb, eqb}
 use Rattle.tools.specs.Bytes.{beNumber, beBytes}
 use Rattle.tools.specs.Vint.{IsVint, allOnes, leastFrom}
 
--- RFC 8794, section 5: x is the Element ID of L octets. They are the octets of a VINT, whose marker stays in the number;
--- VINT_DATA, here the value, is neither all zeros nor all ones, and it stands in the shortest valid form: in fewer
--- octets it is all ones.
+-- RFC 8794, section 5: x is the Element ID of L octets. They are the octets of a VINT, whose marker stays in the
+-- number; VINT_DATA, here the value, is neither all zeros nor all ones, and it stands in the shortest valid form: in
+-- fewer octets it is all ones.
 pub record IsElementId (L x : ℕ) : Type 0 where
   pub value : ℕ
   pub octets : List ℕ
