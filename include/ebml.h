@@ -15,8 +15,9 @@
  * WHAT A CALL GIVES BACK: one result number. Ask it by the macros, in this order; the numbers behind them may change.
  *  - EBML_IS_REFUSAL(n): the call refused, and EBML_REFUSAL(n) is the refusal's number, listed below; ebml_refusal_text
  *    says it in words. A refusal writes nothing.
- *  - EBML_NEEDS_MORE(n), of a call that reads a vint: the bytes end inside it, or there are none. Nothing is written:
- *    lend them again with more behind them.
+ *  - EBML_NEEDS_MORE(n), of a call that reads a vint: the bytes end inside it, or there are none. EBML_MISSING(n) says
+ *    how many more it takes, 1 to 7: with fewer the answer is need-more again, so wait for them and ask once. Nothing
+ *    is written: lend the bytes again with more behind them.
  *  - Else the call succeeded; each call says what its result is.
  *  - A value goes big-endian into the first EBML_VALUE bytes of `out`, in two's complement if it is signed. No byte of
  *    `out` past the value, or past the vint that was written, is changed.
@@ -43,8 +44,14 @@ extern "C" {
 /* The number of a result that is a refusal. */
 #define EBML_REFUSAL(n) ((int)((n) % 65536 - EBML_REFUSED))
 
+/* What is added to the number of missing bytes in a result that asks for more. */
+#define EBML_NEED_MORE 512
+
 /* Whether the result of a call that reads a vint asks for more bytes. */
-#define EBML_NEEDS_MORE(n) ((n) == 0)
+#define EBML_NEEDS_MORE(n) ((n) / 256 == EBML_NEED_MORE / 256)
+
+/* How many bytes are missing, 1 to 7, where a result asks for more; 1 where no byte is there, whatever comes. */
+#define EBML_MISSING(n) ((size_t)((n) - EBML_NEED_MORE))
 
 enum ebml_refusal {
     EBML_READ_VINT_OVERFLOW = 1,         /* a vint's first byte is 0 */
@@ -57,8 +64,8 @@ enum ebml_refusal {
 };
 
 /* Reads the vint at the front of `buffer`: its value into `out`, its length (1 to 8) as the result.
- * Need more: `buffer` is empty, or shorter than the vint that begins there. A longer form than needed is read
- * (40 01 is 1).
+ * Need more: `buffer` is empty (1 byte is missing, at least), or shorter than the vint that begins there (its length
+ * less buffer_len). A longer form than needed is read (40 01 is 1).
  * Refusals: 1, 5 (fewer than 8 bytes of `out`). */
 uint64_t ebml_read_vint(const uint8_t *buffer, size_t buffer_len, uint8_t *out, size_t out_len);
 

@@ -48,9 +48,9 @@ static void reads(void)
     lend(); gives("read 40 01, a longer form", ebml_read_vint(N(0x40, 0x01), out, 12), 2, N(0, 0, 0, 0, 0, 0, 0, 1));
     lend(); gives("read 8 bytes, then a stray one", ebml_read_vint(N(1, 0xFF, 0xFF, 0xFF, 0xFF, 0xFF, 0xFF, 0xFE, 9), out, 8), 8,
                   N(0, 0xFF, 0xFF, 0xFF, 0xFF, 0xFF, 0xFF, 0xFE));
-    lend(); gives("read nothing: need more", ebml_read_vint(none, 0, out, 12), 0, none, 0);
-    lend(); gives("read 40: need more", ebml_read_vint(N(0x40), out, 12), 0, none, 0);
-    lend(); gives("need more comes before a short output", ebml_read_vint(N(0x40), out, 0), 0, none, 0);
+    lend(); gives("read nothing: need more", ebml_read_vint(none, 0, out, 12), 513, none, 0);
+    lend(); gives("read 40: need more", ebml_read_vint(N(0x40), out, 12), 513, none, 0);
+    lend(); gives("need more comes before a short output", ebml_read_vint(N(0x40), out, 0), 513, none, 0);
     lend(); refuses("read 00", ebml_read_vint(N(0, 1), out, 12), EBML_READ_VINT_OVERFLOW);
     lend(); refuses("1 comes before 5", ebml_read_vint(N(0, 1), out, 7), EBML_READ_VINT_OVERFLOW);
     lend(); refuses("read into 7 bytes", ebml_read_vint(N(0x81), out, 7), EBML_OUTPUT_TOO_SHORT);
@@ -58,9 +58,29 @@ static void reads(void)
     lend(); gives("signed DF is -33", ebml_read_signed_vint(N(0xDF), out, 12), 1, N(0xFF, 0xFF, 0xFF, 0xFF, 0xFF, 0xFF, 0xFF, 0xDF));
     lend(); gives("signed 40 C8 is 200", ebml_read_signed_vint(N(0x40, 0xC8), out, 12), 2, N(0, 0, 0, 0, 0, 0, 0, 200));
     lend(); gives("signed 8 bytes, not negative", ebml_read_signed_vint(N(1, 0, 0, 0, 0, 0, 0, 5), out, 12), 8, N(0, 0, 0, 0, 0, 0, 0, 5));
-    lend(); gives("signed need more", ebml_read_signed_vint(N(0x20, 1), out, 12), 0, none, 0);
+    lend(); gives("signed need more", ebml_read_signed_vint(N(0x20, 1), out, 12), 513, none, 0);
     lend(); refuses("signed 00", ebml_read_signed_vint(N(0), out, 12), EBML_READ_VINT_OVERFLOW);
     lend(); refuses("signed into 7 bytes", ebml_read_signed_vint(N(0xDF), out, 7), EBML_OUTPUT_TOO_SHORT);
+}
+
+/* A vint of 8 bytes, its first 0 to 7 lent: 1 byte is missing where there is none, else 8 less those. */
+static void missing(void)
+{
+    static const uint8_t eight[8] = {1, 2, 3, 4, 5, 6, 7, 8};
+    for (size_t n = 0; n < 8; n++) {
+        const size_t want = n == 0 ? 1 : 8 - n;
+        lend();
+        const uint64_t plain = ebml_read_vint(eight, n, out, 12);
+        gives("a part of 8 bytes", plain, 512 + want, none, 0);
+        expect("the missing bytes", EBML_NEEDS_MORE(plain) && !EBML_IS_REFUSAL(plain) && EBML_MISSING(plain) == want);
+        lend();
+        const uint64_t sign = ebml_read_signed_vint(eight, n, out, 12);
+        gives("a part of 8 bytes, signed", sign, 512 + want, none, 0);
+        expect("the missing bytes, signed", EBML_NEEDS_MORE(sign) && !EBML_IS_REFUSAL(sign) && EBML_MISSING(sign) == want);
+    }
+    lend(); gives("all 8 bytes", ebml_read_vint(eight, 8, out, 12), 8, N(0, 2, 3, 4, 5, 6, 7, 8));
+    expect("a vint of 8 bytes does not need more", !EBML_NEEDS_MORE((uint64_t)8));
+    expect("a refusal does not need more", !EBML_NEEDS_MORE((uint64_t)(EBML_REFUSED + EBML_READ_VINT_OVERFLOW)));
 }
 
 static void writes(void)
@@ -149,6 +169,7 @@ static void conversions(void)
 int main(void)
 {
     reads();
+    missing();
     writes();
     conversions();
     printf("c: %d checks, %d failed\n", checks, failures);

@@ -35,6 +35,9 @@ use tag_parse::header::read_header;
 use tag_parse::types::ReadHeader;
 use tag_parse::types::TagHeader;
 
+// The bytes of the least header: one of its ID, one of its size.
+const LEAST_HEADER: usize = 2;
+
 // A decision with no note.
 fn plain(action: Action) -> Decision
     ensures { λ r. ⌜ r ≡ plain action ⌝ }
@@ -191,10 +194,12 @@ pub fn decide(
         return plain(close_or_fault(entries, parts, ids, summary.first_full, count));
     }
     if n == 0 {
-        return plain(Action::NeedMore);
+        return plain(Action::NeedMore {
+            missing: LEAST_HEADER,
+        });
     }
     match read_header(entries, parts, input) {
-        ReadHeader::NeedMore => plain(Action::NeedMore),
+        ReadHeader::NeedMore { missing } => plain(Action::NeedMore { missing }),
         ReadHeader::Refused(e) => plain(Action::Refuse(parse_error(e))),
         ReadHeader::Header(h) => steps6_11(entries, parts, view, ids, knowns, h, input),
     }

@@ -37,7 +37,9 @@ fn read_element(position: u64, h: TagHeader, n: u64, input: &[u8]) -> Action
     let kind = h.kind;
     let total = len + n as usize;
     if input.len() < total {
-        return Action::NeedMore;
+        return Action::NeedMore {
+            missing: total - input.len(),
+        };
     }
     let range = Range {
         begin: position + len as u64,

@@ -53,9 +53,9 @@ unfolding ActionApplies
 fits-refuse d n e = tt
 
 -- need more asks that the record is near
-pub fits-more : (d : TagDecoder) (n : ℕ) → Near d n → ActionApplies d n act.NeedMore
+pub fits-more : (d : TagDecoder) (n m : ℕ) → Near d n → ActionApplies d n (act.NeedMore m)
 unfolding ActionApplies
-fits-more d n good = (good .few, good .near)
+fits-more d n m good = (good .few, good .near)
 
 -- so does the finish
 pub fits-finish : (d : TagDecoder) (n : ℕ) → Near d n → ActionApplies d n act.Finish
@@ -98,7 +98,7 @@ module _ (t : List Entry) (d : TagDecoder) (n : ℕ) (good : Near d n) where
     header-fits (exit.too-many at k f) = fits-refuse d n _
     header-fits (exit.starts at k f) = fits-start d n (h .id) (h .size) (h .len) f l (good .near)
     header-fits (exit.no-size at k z) = fits-refuse d n _
-    header-fits (exit.payload-incomplete m has f) = fits-more d n good
+    header-fits (exit.payload-incomplete m has f) = fits-more d n _ good
     header-fits (exit.payload-refused m x has f q) = fits-refuse d n _
     header-fits (exit.holds m v has f q) = fits-data d n (h .id) v (h .len + m) (omega arith) (good .near)
 
@@ -155,9 +155,9 @@ module _ (es ps : List ℕ) (d : TagDecoder) (s : List ℕ) (byte : Octets s) wh
   exit-fits (exit.finished ok w f) = plain-fits ps d (length s) act.Finish (fits-finish d (length s) (near-by ok))
   exit-fits (exit.closes-full r l c) =
       plain-fits ps d (length s) _ (closing-within (tableOf es ps) d (length s) (near-by (r .admitted)) (step3 d) l c)
-  exit-fits (exit.no-byte n z) = plain-fits ps d (length s) act.NeedMore (fits-more d (length s) (near-by (n .reading .admitted)))
+  exit-fits (exit.no-byte n z) = plain-fits ps d (length s) _ (fits-more d (length s) _ (near-by (n .reading .admitted)))
   exit-fits (exit.header-incomplete at e) =
-      plain-fits ps d (length s) act.NeedMore (fits-more d (length s) (near-by (at .none-full .reading .admitted)))
+      plain-fits ps d (length s) _ (fits-more d (length s) _ (near-by (at .none-full .reading .admitted)))
   exit-fits (exit.header-refused x at e) = refuse-fits (parseError x)
   exit-fits (exit.unknown-id h at f) = refuse-fits InvalidTagId
   exit-fits (exit.on-header h at f x) =
@@ -204,7 +204,7 @@ note-settles ps path f = f
 quiet-near : (d : TagDecoder) (n : ℕ) (a : Action) → ActionApplies d n a → isQuiet (move d a .answer) ≡ true → Near (move d a .state) n
 unfolding ActionApplies move
 quiet-near d n (act.Refuse e) f q = absurd (false≢true q)
-quiet-near d n act.NeedMore f q = record { few = f .0; near = f .1 }
+quiet-near d n (act.NeedMore missing) f q = record { few = f .0; near = f .1 }
 quiet-near d n act.Finish f q = record { few = f .0; near = f .1 }
 quiet-near d n act.HandOut f q = absurd (false≢true q)
 quiet-near d n (act.Close k) f q = absurd (false≢true q)

@@ -18,7 +18,7 @@ pub moved-parts : (d : TagDecoder) (n i : ℕ) (a : Action) → length (d .«ope
     → gives (answerTo a (d .position) (getD (d .waiting) 0 noEnd) (getD (d .«open») i noTag)) (takenBy a) (move d a .state) ≡ move d a
 unfolding ActionApplies answerTo takenBy move
 moved-parts d n i (act.Refuse e) w f top = refl
-moved-parts d n i act.NeedMore w f top = refl
+moved-parts d n i (act.NeedMore missing) w f top = refl
 moved-parts d n i act.Finish w f top = refl
 moved-parts d n i act.HandOut w f top = refl
 moved-parts d n i (act.Close k) w f top = rw (top (f .1), ends-head d k (f .0) (omega (arith, f .1)))

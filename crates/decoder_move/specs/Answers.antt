@@ -13,7 +13,7 @@ use Rattle.decoder_rules.specs.declared.types.WaitingEnd.{WaitingEnd}
 -- what an action answers at the position p, where this End waits first and this master is the top
 unfoldable pub answerTo : Action → ℕ → WaitingEnd → OpenTag → Answer
 answerTo (act.Refuse e) p first top = answer.Refused (record { error = e; place = p })
-answerTo act.NeedMore p first top = answer.NeedMore
+answerTo (act.NeedMore missing) p first top = answer.NeedMore missing
 answerTo act.Finish p first top = answer.Finished
 answerTo act.HandOut p first top = answer.Event (event.End first)
 answerTo (act.Close k) p first top = answer.Event (event.End (endFor top))
@@ -23,7 +23,7 @@ answerTo (act.Data x v n) p first top = answer.Event (event.Data x p v)
 -- how many bytes an action takes
 unfoldable pub takenBy : Action → ℕ
 takenBy (act.Refuse e) = 0
-takenBy act.NeedMore = 0
+takenBy (act.NeedMore missing) = 0
 takenBy act.Finish = 0
 takenBy act.HandOut = 0
 takenBy (act.Close k) = 0

@@ -21,7 +21,7 @@ NoteApplies ps (Settle path) = length (partsIn (partsOf ps) path) ≤ mostOpen
 -- an action applies to the record with the note
 unfoldable pub ActionApplies : TagDecoder → ℕ → Action → Type 0
 ActionApplies d n (act.Refuse e) = Unit {0}
-ActionApplies d n act.NeedMore = (d .«open_count» ≤ mostOpen) × (d .position + n ≤ farthest)
+ActionApplies d n (act.NeedMore missing) = (d .«open_count» ≤ mostOpen) × (d .position + n ≤ farthest)
 ActionApplies d n act.Finish = (d .«open_count» ≤ mostOpen) × (d .position + n ≤ farthest)
 ActionApplies d n act.HandOut = 0 < d .«waiting_count»
 ActionApplies d n (act.Close k) = (k < d .«open_count») × (d .«open_count» ≤ mostOpen)

@@ -75,7 +75,7 @@ pub fn answer_to(action: Action, position: u64, first: WaitingEnd, top: OpenTag)
             error,
             place: position,
         }),
-        Action::NeedMore => Answer::NeedMore,
+        Action::NeedMore { missing } => Answer::NeedMore { missing },
         Action::Finish => Answer::Finished,
         Action::HandOut => Answer::Event(Event::End(first)),
         Action::Close(_) => Answer::Event(Event::End(end_for(top))),
@@ -97,7 +97,7 @@ pub fn taken_by(action: Action) -> usize
 {
     match action {
         Action::Refuse(_) => 0,
-        Action::NeedMore => 0,
+        Action::NeedMore { .. } => 0,
         Action::Finish => 0,
         Action::HandOut => 0,
         Action::Close(_) => 0,

@@ -18,7 +18,7 @@ use Rattle.decoder_rules.specs.Deciding.{actionNeedsMore, decide}
 use Rattle.decoder_rules.specs.declared.types.Action.{Action}
 use Rattle.decoder_rules.specs.declared.types.Decision.{Decision}
 use Rattle.decoder_rules.specs.declared.types.TagDecoder.{TagDecoder}
-use Rattle.decoder_rules.proofs.Exits.{HeaderExit, misplaced, oversized, too-large, ends-tops, too-many, starts, no-size, payload-incomplete, payload-refused, holds, payloadOf, Admitted, Reading, AtBytes, AtHeader, Exit, refused-first, after-finish, hands-out, finished, closes-full, no-byte, header-incomplete, header-refused, unknown-id, on-header, exits, exit-decides}
+use Rattle.decoder_rules.proofs.Exits.{HeaderExit, misplaced, oversized, too-large, ends-tops, too-many, starts, no-size, payload-incomplete, payload-refused, holds, payloadOf, Admitted, Reading, NoneFull, AtBytes, AtHeader, Exit, refused-first, after-finish, hands-out, finished, closes-full, no-byte, header-incomplete, header-refused, unknown-id, on-header, exits, exit-decides}
 
 module _ (t : List Entry) (d : TagDecoder) (h : TagHeader) (s u : List ℕ) where
   -- a payload that is there is read alike
@@ -63,10 +63,13 @@ module _ (es ps : List ℕ) (d : TagDecoder) (s u : List ℕ) (byte : getD s 0 0
   reading-longer : Reading es ps d s → Reading es ps d (s ++ u)
   reading-longer r = record { admitted = admitted-longer (r .admitted); none-waiting = r .none-waiting; unfinished = r .unfinished }
 
+  pub none-full-longer : NoneFull es ps d s → NoneFull es ps d (s ++ u)
+  none-full-longer n = record { reading = reading-longer (n .reading); none-full = n .none-full }
+
   bytes-longer : AtBytes es ps d s → AtBytes es ps d (s ++ u)
   bytes-longer at =
       record {
-        none-full = record { reading = reading-longer (at .none-full .reading); none-full = at .none-full .none-full };
+        none-full = none-full-longer (at .none-full);
         some-byte = rw (length-append s u) (omega (arith, at .some-byte));
       }
 

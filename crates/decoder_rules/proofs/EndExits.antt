@@ -118,7 +118,7 @@ end-keeps (closes-all n m l) = record { none = refl; position = refl; settled = 
 -- an answer after which the end of input is looked at: more is needed, or it is finished
 abbrev pub isQuiet : Answer → Bool
 isQuiet (answer.Event e) = false
-isQuiet answer.NeedMore = true
+isQuiet (answer.NeedMore missing) = true
 isQuiet answer.Finished = true
 isQuiet (answer.Refused r) = false
 
@@ -134,6 +134,6 @@ eof-exits es ps d s = go (decode es ps d s .answer) refl
   where
     go : (a : Answer) → decode es ps d s .answer ≡ a → EofExit es ps d s (endedOr (tableOf es ps) s (decode es ps d s) a)
     go (answer.Event e) q = as-decoded (rw q)
-    go answer.NeedMore q = rw (decode-stays es ps d s (rw q) .same) (at-end (rw q) (end-exits (tableOf es ps) (withNote es ps d s) s))
+    go (answer.NeedMore missing) q = rw (decode-stays es ps d s (rw q) .same) (at-end (rw q) (end-exits (tableOf es ps) (withNote es ps d s) s))
     go answer.Finished q = rw (decode-stays es ps d s (rw q) .same) (at-end (rw q) (end-exits (tableOf es ps) (withNote es ps d s) s))
     go (answer.Refused r) q = as-decoded (rw q)

@@ -1,7 +1,7 @@
 -- The view of a call's exits: every way in which `decide` ends, each with the facts that hold there. `exits` says that
 -- there is no other, `exit-decides` that whoever has the facts of a case knows the decision. Number tests stand as
 -- orders, the others as equations. Assumes nothing.
-use Prim.Native.Nat.{ℕ, _+_, _≤_, _<_}
+use Prim.Native.Nat.{ℕ, _-_, _+_, _≤_, _<_}
 use mathlib.Core.Path.{_≡_, refl, sym, ap, _∙_}
 use mathlib.Core.Bool.{Bool, true, false, cond, _&&_, _||_, false≢true}
 use mathlib.Core.List.{List}
@@ -27,7 +27,7 @@ use Rattle.tag_parse.specs.declared.types.TagHeader.{TagHeader}
 use Rattle.tag_parse.specs.declared.types.TagValue.{TagValue}
 use Rattle.decoder_rules.specs.Record.{opens}
 use Rattle.decoder_rules.specs.OneCall.{checkRecord10to12, check13, andThen, step1, step3, closeOrFault, step6, settles, step7, noted, step8, reaches, step9, validHeader, step10, dataOr, readElement, elementOf, step11}
-use Rattle.decoder_rules.specs.Deciding.{plain, steps10-11, unless, steps8-11, steps6-11, step5, steps4-11, steps2-11, orRefuse, decide}
+use Rattle.decoder_rules.specs.Deciding.{leastHeader, plain, steps10-11, unless, steps8-11, steps6-11, step5, steps4-11, steps2-11, orRefuse, decide}
 use Rattle.decoder_rules.specs.Numbers.{parseError}
 use Rattle.decoder_rules.specs.declared.types.Action.{Action}
 use Rattle.decoder_rules.specs.declared.types.Action.the-variants as act
@@ -92,7 +92,7 @@ pub data HeaderExit (t : List Entry) (d : TagDecoder) (h : TagHeader) (s : List 
   too-many : AtElement t d h → isMaster (h .kind) ≡ true → mostOpen ≤ d .«open_count» → HeaderExit t d h s (act.Refuse error.TooManyOpen)
   starts : AtElement t d h → isMaster (h .kind) ≡ true → d .«open_count» < mostOpen → HeaderExit t d h s (act.Start (h .id) (h .size) (h .len))
   no-size : AtElement t d h → isMaster (h .kind) ≡ false → h .size ≡ Unknown → HeaderExit t d h s (act.Refuse error.InvalidTagData)
-  payload-incomplete : (n : ℕ) → HasPayload t d h n → length s < h .len + n → HeaderExit t d h s act.NeedMore
+  payload-incomplete : (n : ℕ) → HasPayload t d h n → length s < h .len + n → HeaderExit t d h s (act.NeedMore (h .len + n - length s))
   payload-refused : (n : ℕ) (x : ParseError) → HasPayload t d h n → h .len + n ≤ length s → payloadOf d h n s ≡ payload.Refused x
       → HeaderExit t d h s (act.Refuse (parseError x))
   holds : (n : ℕ) (v : TagValue) → HasPayload t d h n → h .len + n ≤ length s → payloadOf d h n s ≡ payload.Value v
@@ -133,8 +133,8 @@ pub data Exit (es ps : List ℕ) (d : TagDecoder) (s : List ℕ) : Decision → 
   hands-out : Admitted es ps d s → 0 < d .«waiting_count» → Exit es ps d s (plain act.HandOut)
   finished : Admitted es ps d s → d .«waiting_count» ≡ 0 → d .finished ≡ true → Exit es ps d s (plain act.Finish)
   closes-full : {a : Action} → Reading es ps d s → step3 d < d .«open_count» → Closing (tableOf es ps) d (step3 d) a → Exit es ps d s (plain a)
-  no-byte : NoneFull es ps d s → length s ≡ 0 → Exit es ps d s (plain act.NeedMore)
-  header-incomplete : AtBytes es ps d s → readHeader (tableOf es ps) s ≡ header.NeedMore → Exit es ps d s (plain act.NeedMore)
+  no-byte : NoneFull es ps d s → length s ≡ 0 → Exit es ps d s (plain (act.NeedMore leastHeader))
+  header-incomplete : {m : ℕ} → AtBytes es ps d s → readHeader (tableOf es ps) s ≡ header.NeedMore m → Exit es ps d s (plain (act.NeedMore m))
   header-refused : (x : ParseError) → AtBytes es ps d s → readHeader (tableOf es ps) s ≡ header.Refused x → Exit es ps d s (plain (act.Refuse (parseError x)))
   unknown-id : (h : TagHeader) → AtHeader es ps d s h → step6 d h ≡ false → Exit es ps d s (plain (act.Refuse error.InvalidTagId))
   on-header : {a : Action} (h : TagHeader) → AtHeader es ps d s h → step6 d h ≡ true → HeaderExit (tableOf es ps) (noted ps d (step7 (tableOf es ps) d h)) h s a
@@ -160,7 +160,7 @@ module _ (t : List Entry) (d : TagDecoder) (h : TagHeader) (s : List ℕ) where
   element-exits at k Unknown e = no-size at k e
   element-exits at k (Known n) e =
       let has : HasPayload t d h n = record { at = at; no-master = k; known = e } in
-      pick By (ltb (length s) (h .len + n)) act.NeedMore (dataOr (h .id) (h .len + n) (payloadOf d h n s))
+      pick By (ltb (length s) (h .len + n)) (act.NeedMore (h .len + n - length s)) (dataOr (h .id) (h .len + n) (payloadOf d h n s))
       (λ f. payload-incomplete n has (ltb-true _ _ f))
       (λ f. data-exits n has (ltb-false _ _ f) (payloadOf d h n s) refl)
 
@@ -215,14 +215,14 @@ module _ (es ps : List ℕ) (d : TagDecoder) (s : List ℕ) where
 
   step5-exits : AtBytes es ps d s → (r : ReadHeader) → readHeader (tableOf es ps) s ≡ r → Ends (step5 ps (tableOf es ps) d s r)
   unfolding step5
-  step5-exits at header.NeedMore e = header-incomplete at e
+  step5-exits at (header.NeedMore missing) e = header-incomplete at e
   step5-exits at (header.Refused x) e = header-refused x at e
   step5-exits at (header.Header h) e = steps6-exits h (record { at-bytes = at; read = e })
 
   steps4-exits : NoneFull es ps d s → Ends (steps4-11 ps (tableOf es ps) d s)
   unfolding steps4-11
   steps4-exits n =
-      pick Ends (eqb (length s) 0) (plain act.NeedMore) (step5 ps (tableOf es ps) d s (readHeader (tableOf es ps) s))
+      pick Ends (eqb (length s) 0) (plain (act.NeedMore leastHeader)) (step5 ps (tableOf es ps) d s (readHeader (tableOf es ps) s))
       (λ f. no-byte n (eqb-true _ _ f))
       (λ f.
       let some : 0 < length s = omega (arith, eqb-false (length s) 0 f) in
@@ -426,7 +426,7 @@ pub record Settling (es ps : List ℕ) (d : TagDecoder) (s : List ℕ) (p : Path
 -- whether an action answers that it is finished
 abbrev pub isFinish : Action → Bool
 isFinish (act.Refuse e) = false
-isFinish act.NeedMore = false
+isFinish (act.NeedMore missing) = false
 isFinish act.Finish = true
 isFinish act.HandOut = false
 isFinish (act.Close k) = false

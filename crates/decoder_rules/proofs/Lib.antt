@@ -8,6 +8,7 @@ pub mod HeaderPath
 pub mod EndExits
 pub mod NumbersFit
 pub mod AppendedDecision
+pub mod Missing
 pub mod Computing
 pub mod RefusalNumbers
 pub mod Unique

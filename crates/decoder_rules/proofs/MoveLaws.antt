@@ -8,8 +8,8 @@ use native.Mathlib.Omega.{arith}
 use Rattle.table.specs.Table.{partsOf, partsIn}
 use Rattle.decoder_rules.specs.Record.{withOpen, withWaiting, withNotes, opened, closedTo, handedOut, waits}
 use Rattle.decoder_rules.specs.OneCall.{isSettle, noted}
-use Rattle.decoder_rules.specs.Deciding.{decide, actionNeedsMore}
-use Rattle.decoder_rules.specs.Moving.{needsMore, move, apply, decode}
+use Rattle.decoder_rules.specs.Deciding.{decide, actionNeedsMore, actionMissing}
+use Rattle.decoder_rules.specs.Moving.{needsMore, missingIn, move, apply, decode}
 use Rattle.decoder_rules.specs.declared.types.Action.{Action}
 use Rattle.decoder_rules.specs.declared.types.Action.the-variants as act
 use Rattle.decoder_rules.specs.declared.types.Answer.{Answer}
@@ -70,7 +70,7 @@ module _ (d : TagDecoder) where
   pub move-settings : (a : Action) → SameSettings d (move d a .state)
   unfolding move withOpen withWaiting withNotes opened closedTo handedOut
   move-settings (act.Refuse e) = refl
-  move-settings act.NeedMore = refl
+  move-settings (act.NeedMore missing) = refl
   move-settings act.Finish = refl
   move-settings act.HandOut = refl
   move-settings (act.Close k) = refl
@@ -81,7 +81,7 @@ module _ (d : TagDecoder) where
   pub move-finished : (a : Action) → move d a .state .finished ≡ d .finished
   unfolding move withOpen withWaiting withNotes opened closedTo handedOut
   move-finished (act.Refuse e) = refl
-  move-finished act.NeedMore = refl
+  move-finished (act.NeedMore missing) = refl
   move-finished act.Finish = refl
   move-finished act.HandOut = refl
   move-finished (act.Close k) = refl
@@ -92,7 +92,7 @@ module _ (d : TagDecoder) where
   pub move-settled : (a : Action) → move d a .state .settled ≡ d .settled
   unfolding move withOpen withWaiting withNotes opened closedTo handedOut
   move-settled (act.Refuse e) = refl
-  move-settled act.NeedMore = refl
+  move-settled (act.NeedMore missing) = refl
   move-settled act.Finish = refl
   move-settled act.HandOut = refl
   move-settled (act.Close k) = refl
@@ -103,7 +103,7 @@ module _ (d : TagDecoder) where
   pub move-position : (a : Action) → move d a .state .position ≡ d .position + move d a .taken
   unfolding move withOpen withWaiting withNotes opened closedTo handedOut
   move-position (act.Refuse e) = omega arith
-  move-position act.NeedMore = omega arith
+  move-position (act.NeedMore missing) = omega arith
   move-position act.Finish = omega arith
   move-position act.HandOut = omega arith
   move-position (act.Close k) = omega arith
@@ -116,12 +116,23 @@ module _ (d : TagDecoder) where
   pub move-needs-more : (a : Action) → needsMore (move d a .answer) ≡ actionNeedsMore a
   unfolding move
   move-needs-more (act.Refuse e) = refl
-  move-needs-more act.NeedMore = refl
+  move-needs-more (act.NeedMore missing) = refl
   move-needs-more act.Finish = refl
   move-needs-more act.HandOut = refl
   move-needs-more (act.Close k) = refl
   move-needs-more (act.Start x z len) = refl
   move-needs-more (act.Data x v n) = refl
+
+  -- and for as many bytes
+  pub move-missing : (a : Action) → missingIn (move d a .answer) ≡ actionMissing a
+  unfolding move
+  move-missing (act.Refuse e) = refl
+  move-missing (act.NeedMore missing) = refl
+  move-missing act.Finish = refl
+  move-missing act.HandOut = refl
+  move-missing (act.Close k) = refl
+  move-missing (act.Start x z len) = refl
+  move-missing (act.Data x v n) = refl
 
 -- the record stays as it is, and nothing is taken
 pub record Stays (d : TagDecoder) (r : Decoded) : Type 0 where
@@ -131,7 +142,7 @@ pub record Stays (d : TagDecoder) (r : Decoded) : Type 0 where
 -- an answer that hands nothing over: more is needed, or it is finished, or it is refused
 abbrev pub isNoEvent : Answer → Bool
 isNoEvent (answer.Event e) = false
-isNoEvent answer.NeedMore = true
+isNoEvent (answer.NeedMore missing) = true
 isNoEvent answer.Finished = true
 isNoEvent (answer.Refused r) = true
 
@@ -140,7 +151,7 @@ module _ (d : TagDecoder) where
   pub no-event-stays : (a : Action) → isNoEvent (move d a .answer) ≡ true → Stays d (move d a)
   unfolding move
   no-event-stays (act.Refuse e) q = record { same = refl; none = refl }
-  no-event-stays act.NeedMore q = record { same = refl; none = refl }
+  no-event-stays (act.NeedMore missing) q = record { same = refl; none = refl }
   no-event-stays act.Finish q = record { same = refl; none = refl }
   no-event-stays act.HandOut q = absurd (false≢true q)
   no-event-stays (act.Close k) q = absurd (false≢true q)
@@ -153,7 +164,7 @@ module _ (d : TagDecoder) where
     where
       by : (b : Answer) → needsMore b ≡ true → isNoEvent b ≡ true
       by (answer.Event e) f = f
-      by answer.NeedMore f = refl
+      by (answer.NeedMore missing) f = refl
       by answer.Finished f = refl
       by (answer.Refused r) f = refl
 
@@ -169,7 +180,7 @@ module _ (d : TagDecoder) where
   pub finished-by : (a : Action) → move d a .answer ≡ answer.Finished → a ≡ act.Finish
   unfolding move
   finished-by (act.Refuse e) q = let z : _≡_ {A = ℕ} 0 1 = cc in absurd-eq z
-  finished-by act.NeedMore q = let z : _≡_ {A = ℕ} 0 1 = cc in absurd-eq z
+  finished-by (act.NeedMore missing) q = let z : _≡_ {A = ℕ} 0 1 = cc in absurd-eq z
   finished-by act.Finish q = refl
   finished-by act.HandOut q = let z : _≡_ {A = ℕ} 0 1 = cc in absurd-eq z
   finished-by (act.Close k) q = let z : _≡_ {A = ℕ} 0 1 = cc in absurd-eq z
@@ -180,7 +191,7 @@ module _ (d : TagDecoder) where
   pub end-takes-none : (a : Action) {end : WaitingEnd} → move d a .answer ≡ answer.Event (End end) → move d a .taken ≡ 0
   unfolding move
   end-takes-none (act.Refuse e) q = refl
-  end-takes-none act.NeedMore q = refl
+  end-takes-none (act.NeedMore missing) q = refl
   end-takes-none act.Finish q = refl
   end-takes-none act.HandOut q = refl
   end-takes-none (act.Close k) q = refl
@@ -221,6 +232,11 @@ module _ (es ps : List ℕ) (d : TagDecoder) (s : List ℕ) where
   pub decode-needs-more : needsMore (decode es ps d s .answer) ≡ actionNeedsMore (decide es ps d s .action)
   unfolding apply
   decode-needs-more = move-needs-more withNote (decide es ps d s .action)
+
+  -- and for as many bytes
+  pub decode-missing-decided : missingIn (decode es ps d s .answer) ≡ actionMissing (decide es ps d s .action)
+  unfolding apply
+  decode-missing-decided = move-missing withNote (decide es ps d s .action)
 
   -- a call with no event changes at most the settling note, and takes nothing
   pub decode-stays : isNoEvent (decode es ps d s .answer) ≡ true → Stays withNote (decode es ps d s)

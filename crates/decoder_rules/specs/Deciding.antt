@@ -48,13 +48,17 @@ steps6-11 ps t d h s =
 
 -- 5 to 11, by what was read as a header
 unfoldable pub step5 : List ℕ → List Entry → TagDecoder → List ℕ → ReadHeader → Decision
-step5 ps t d s header.NeedMore = plain act.NeedMore
+step5 ps t d s (header.NeedMore missing) = plain (act.NeedMore missing)
 step5 ps t d s (header.Refused e) = plain (act.Refuse (parseError e))
 step5 ps t d s (header.Header h) = steps6-11 ps t d h s
 
--- 4 to 11: "No byte: need more."
+-- the bytes of the least header: one of its ID, one of its size
+abbrev pub leastHeader : ℕ
+leastHeader = 2
+
+-- 4 to 11: "No byte: need more."; document 02, CR 1: "no byte at all gives 2"
 unfoldable pub steps4-11 : List ℕ → List Entry → TagDecoder → List ℕ → Decision
-steps4-11 ps t d s = cond (eqb (length s) 0) (plain act.NeedMore) (step5 ps t d s (readHeader t s))
+steps4-11 ps t d s = cond (eqb (length s) 0) (plain (act.NeedMore leastHeader)) (step5 ps t d s (readHeader t s))
 
 -- 2 to 11: "A waiting End is handed out. If finished: Finished." Then the masters that are full close
 unfoldable pub steps2-11 : List ℕ → List Entry → TagDecoder → List ℕ → Decision
@@ -78,9 +82,19 @@ decide es ps d s = orRefuse (step1 es ps d (length s)) (steps2-11 ps (tableOf es
 -- whether what is decided is to wait for more bytes
 abbrev pub actionNeedsMore : Action → Bool
 actionNeedsMore (act.Refuse e) = false
-actionNeedsMore act.NeedMore = true
+actionNeedsMore (act.NeedMore missing) = true
 actionNeedsMore act.Finish = false
 actionNeedsMore act.HandOut = false
 actionNeedsMore (act.Close k) = false
 actionNeedsMore (act.Start x size len) = false
 actionNeedsMore (act.Data x v n) = false
+
+-- how many bytes it waits for, at least: 0 where it waits for none
+abbrev pub actionMissing : Action → ℕ
+actionMissing (act.Refuse e) = 0
+actionMissing (act.NeedMore missing) = missing
+actionMissing act.Finish = 0
+actionMissing act.HandOut = 0
+actionMissing (act.Close k) = 0
+actionMissing (act.Start x size len) = 0
+actionMissing (act.Data x v n) = 0

@@ -44,13 +44,13 @@ cutSized p n x len (Known size) = cutAt p n (Number x) (Number size) len
 
 -- where the ID x of k bytes is complete, by what was read as the size after it
 abbrev pub cutSize : ℕ → ℕ → ℕ → ℕ → ReadVint → Cut
-cutSize p n x k vint.NeedMore = cutAt p n (Number x) Nothing 0
+cutSize p n x k (vint.NeedMore missing) = cutAt p n (Number x) Nothing 0
 cutSize p n x k (vint.Refused e) = cutAt p n (Number x) Nothing 0
 cutSize p n x k (vint.Vint v L) = cutSized p n x (k + L) (sizeOf v L)
 
 -- by what was read as the ID: "ID if complete, size if known"
 abbrev pub cutId : ℕ → List ℕ → ReadTagId → Cut
-cutId p s id.NeedMore = cutAt p (length s) Nothing Nothing 0
+cutId p s (id.NeedMore missing) = cutAt p (length s) Nothing Nothing 0
 cutId p s (id.TagId x k) = cutSize p (length s) x k (readVint (drop k s))
 
 -- what 23 names for the bytes s that are left at the position p
@@ -93,7 +93,7 @@ endOfInput t d s =
 -- what the call answers where decoding answered so: the end of input "on need more or Finished", else the same
 abbrev pub endedOr : List Entry → List ℕ → Decoded → Answer → Decoded
 endedOr t s r (answer.Event e) = r
-endedOr t s r answer.NeedMore = endOfInput t (r .state) s
+endedOr t s r (answer.NeedMore missing) = endOfInput t (r .state) s
 endedOr t s r answer.Finished = endOfInput t (r .state) s
 endedOr t s r (answer.Refused e) = r
 

@@ -38,7 +38,7 @@ masterAt x (Known n) p len = openTag x true n p (p + len)
 -- what an action answers, takes and leaves, on the record with the note
 unfoldable pub move : TagDecoder → Action → Decoded
 move d (act.Refuse e) = refuse e (d .position) d
-move d act.NeedMore = gives answer.NeedMore 0 d
+move d (act.NeedMore missing) = gives (answer.NeedMore missing) 0 d
 move d act.Finish = gives answer.Finished 0 d
 move d act.HandOut = gives (answer.Event (event.End (getD (d .waiting) 0 noEnd))) 0 (handedOut d)
 move d (act.Close k) = gives (answer.Event (event.End (getD (endsFrom d k) 0 noEnd))) 0 (closedTo d k)
@@ -59,6 +59,13 @@ decode es ps d s = apply ps d (decide es ps d s)
 -- whether an answer asks for more bytes
 abbrev pub needsMore : Answer → Bool
 needsMore (answer.Event e) = false
-needsMore answer.NeedMore = true
+needsMore (answer.NeedMore missing) = true
 needsMore answer.Finished = false
 needsMore (answer.Refused r) = false
+
+-- how many bytes it asks for, at least: 0 where it asks for none
+abbrev pub missingIn : Answer → ℕ
+missingIn (answer.Event e) = 0
+missingIn (answer.NeedMore missing) = missing
+missingIn answer.Finished = 0
+missingIn (answer.Refused r) = 0

@@ -35,7 +35,7 @@ parseError parse.ReadF64Mismatch = error.ReadF64Mismatch
 -- the number of the refusal in an answer; 0 for any other answer
 abbrev pub answerRefusal : Answer → ℕ
 answerRefusal (answer.Event e) = 0
-answerRefusal answer.NeedMore = 0
+answerRefusal (answer.NeedMore missing) = 0
 answerRefusal answer.Finished = 0
 answerRefusal (answer.Refused r) = errorNumber (r .error)
 

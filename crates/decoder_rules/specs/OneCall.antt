@@ -158,10 +158,11 @@ abbrev pub dataOr : ℕ → ℕ → ReadValue → Action
 dataOr x n (payload.Value v) = act.Data x v n
 dataOr x n (payload.Refused e) = act.Refuse (parseError e)
 
--- an element with n bytes of payload after its header at the position p
+-- an element with n bytes of payload after its header at the position p; document 02, CR 1: "a payload gives what it
+-- lacks"
 unfoldable pub readElement : ℕ → TagHeader → ℕ → List ℕ → Action
 readElement p h n s =
-    cond (ltb (length s) (h .len + n)) act.NeedMore
+    cond (ltb (length s) (h .len + n)) (act.NeedMore (h .len + n - length s))
     (dataOr (h .id) (h .len + n)
     (valueOf (h .kind) (take n (drop (h .len) s)) (record { begin = p + h .len; end = p + (h .len + n) })))
 

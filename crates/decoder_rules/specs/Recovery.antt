@@ -49,7 +49,7 @@ headerAt ps t d h = cond (step6 d h) (judgedAt t (noted ps d (step7 t d h)) h) (
 
 -- by what was read as a header: "Incomplete or no byte: not found."
 abbrev pub readAt : List ℕ → List Entry → TagDecoder → ReadHeader → PlaceResult
-readAt ps t d header.NeedMore = at Stop d
+readAt ps t d (header.NeedMore missing) = at Stop d
 readAt ps t d (header.Refused e) = stepOn d
 readAt ps t d (header.Header h) = headerAt ps t d h
 

@@ -22,10 +22,10 @@ pub data Named : Type 0 where
   nothing : Named
   cut : Cut → Named
 
--- an event, need more, the finish, or a refusal by its number, its place and what it names
+-- an event, need more of so many bytes, the finish, or a refusal by its number, its place and what it names
 pub data Told : Type 0 where
   event : Event → Told
-  need-more : Told
+  need-more : ℕ → Told
   finish : Told
   refusal : ℕ → ℕ → Named → Told
 
@@ -49,7 +49,7 @@ namedBy error.NotAMaster = nothing
 -- what an answer tells
 abbrev pub toldBy : Answer → Told
 toldBy (answer.Event e) = event e
-toldBy answer.NeedMore = need-more
+toldBy (answer.NeedMore missing) = need-more missing
 toldBy answer.Finished = finish
 toldBy (answer.Refused r) = refusal (errorNumber (r .error)) (r .place) (namedBy (r .error))
 
@@ -78,7 +78,7 @@ last c d s = record { calls = c ∷ []; left = d; rest = s }
 -- the last
 abbrev pub goesOn : (TagDecoder → List ℕ → Calls) → Answer → Call → TagDecoder → List ℕ → Calls
 goesOn others (answer.Event e) c d s = before c (others d s)
-goesOn others answer.NeedMore c d s = last c d s
+goesOn others (answer.NeedMore missing) c d s = last c d s
 goesOn others answer.Finished c d s = last c d s
 goesOn others (answer.Refused r) c d s = last c d s
 

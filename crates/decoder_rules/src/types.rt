@@ -107,7 +107,8 @@ pub struct Refusal {
 // What a call answers.
 pub enum Answer {
     Event(Event),
-    NeedMore,
+    // so many bytes are missing, at least
+    NeedMore { missing: usize },
     Finished,
     Refused(Refusal),
 }
@@ -134,7 +135,10 @@ pub enum Note {
 // What a call does, decided before the record moves.
 pub enum Action {
     Refuse(DecodeError),
-    NeedMore,
+    // so many bytes are missing, at least
+    NeedMore {
+        missing: usize,
+    },
     Finish,
     HandOut,
     // so many masters stay open

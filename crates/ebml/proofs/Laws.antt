@@ -19,7 +19,7 @@ use Rattle.table.specs.declared.types.Rule.the-variants.{NoElementId, Repeated,
 use Rattle.table.proofs.Entries.{length-table}
 use Rattle.table.proofs.Passed.{answered, fault-is}
 use Rattle.table.proofs.Shaped.{shaped}
-use Rattle.ebml.specs.Numbers.{codeOf, resultOf, valueOut, writtenOut}
+use Rattle.ebml.specs.Numbers.{refusalOf, needMoreOf, codeOf, resultOf, valueOut, writtenOut}
 
 pub number-small : (e : ToolError) → numberOf e ≤ 7
 number-small ReadVintOverflow = omega arith
@@ -30,6 +30,10 @@ number-small OutputTooShort = omega arith
 number-small ReadU64Overflow = omega arith
 number-small ReadI64Overflow = omega arith
 number-small ReadF64Mismatch = omega arith
+
+-- a refusal's result is below that of every need-more
+pub refusal-below : (e : ToolError) (missing : ℕ) → refusalOf e < needMoreOf missing
+refusal-below e missing = omega (arith, number-small e)
 
 -- the number of what a writer answered, and the bytes that it left
 pub written : {w : Written} {r : ℕ} {o : List ℕ} {p : Written × List ℕ} → r ≡ codeOf w → Gives w o p → Gives r o (writtenOut p)

@@ -36,15 +36,19 @@ valueOut result v out = cond (ltb (length out) 8) (refusalOf OutputTooShort, out
 abbrev pub signedOut : ℕ → ℤ → List ℕ → ℕ × List ℕ
 signedOut result z out = valueOut result (bitsOf 64 z) out
 
--- "the result is the vint's length, 0 for need more"; "it and need-more write nothing"
+-- document 02, CR 1: "there need-more n is 512 + n"
+abbrev pub needMoreOf : ℕ → ℕ
+needMoreOf missing = 512 + missing
+
+-- "the result is the vint's length"; a refusal "and need-more write nothing"
 abbrev pub readOut : ReadVint → List ℕ → ℕ × List ℕ
-readOut read.NeedMore out = (0, out)
+readOut (read.NeedMore missing) out = (needMoreOf missing, out)
 readOut (read.Refused e) out = (refusalOf e, out)
 readOut (read.Vint v L) out = valueOut L v out
 
 -- the same of a signed vint
 abbrev pub readSignedOut : ReadSignedVint → List ℕ → ℕ × List ℕ
-readSignedOut signed.NeedMore out = (0, out)
+readSignedOut (signed.NeedMore missing) out = (needMoreOf missing, out)
 readSignedOut (signed.Refused e) out = (refusalOf e, out)
 readSignedOut (signed.Vint z L) out = signedOut L z out
 

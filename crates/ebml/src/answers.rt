@@ -1,8 +1,9 @@
 // An answer of the library as one result number, with its value at the front of the lent bytes.
 
 ghost use mathlib.Core.Path.{_≡_};
+ghost use Prim.Native.Nat.{_≤_};
 ghost use Rattle.tools.specs.Answers.{Gives};
-ghost use Rattle.ebml.specs.Numbers.{refusalOf, codeOf, resultOf, valueOut, signedOut};
+ghost use Rattle.ebml.specs.Numbers.{refusalOf, needMoreOf, codeOf, resultOf, valueOut, signedOut};
 use tools::errors::ToolError;
 use tools::errors::number_and_place;
 use tools::integer::i64_to_arr;
@@ -14,6 +15,14 @@ pub fn refusal(e: ToolError) -> u64
     ensures { λ r. ⌜ r ≡ refusalOf e ⌝ }
 {
     256 + number_and_place(e).number
+}
+
+// The result where so many bytes of a vint are missing.
+pub fn need_more(missing: usize) -> u64
+    requires { ⌜ missing ≤ 8 ⌝ }
+    ensures { λ r. ⌜ r ≡ needMoreOf missing ⌝ }
+{
+    512 + missing as u64
 }
 
 // The result of a writer: the length written, or a refusal.

@@ -11,6 +11,7 @@ ghost use Rattle.ebml.specs.Numbers.{readOut, readSignedOut, writtenOut,
 use crate::answers::code_of;
 use crate::answers::hand_out;
 use crate::answers::hand_out_signed;
+use crate::answers::need_more;
 use crate::answers::refusal;
 use tools::element_id::is_element_id;
 use tools::float::ArrToF64;
@@ -29,13 +30,13 @@ use tools::vint::as_vint_with_length;
 use tools::vint::is_vint;
 use tools::vint::read_vint;
 
-// The vint at the front of the buffer: its value out, its length the result.
+// The vint at the front of the buffer: its value out, its length the result; or how many bytes of it are missing.
 #[no_mangle]
 pub extern "C" fn ebml_read_vint(buffer: &[u8], out: &mut [u8]) -> u64
     ensures { λ r. ⌜ Gives r (now (out .exit)) (readOut (readVint (now (buffer .entry))) (now (out .entry))) ⌝ }
 {
     match read_vint(buffer) {
-        ReadVint::NeedMore => 0,
+        ReadVint::NeedMore { missing } => need_more(missing),
         ReadVint::Refused(e) => refusal(e),
         ReadVint::Vint { value, length } => hand_out(length as u64, value, out),
     }
@@ -47,7 +48,7 @@ pub extern "C" fn ebml_read_signed_vint(buffer: &[u8], out: &mut [u8]) -> u64
     ensures { λ r. ⌜ Gives r (now (out .exit)) (readSignedOut (readSignedVint (now (buffer .entry))) (now (out .entry))) ⌝ }
 {
     match read_signed_vint(buffer) {
-        ReadSignedVint::NeedMore => 0,
+        ReadSignedVint::NeedMore { missing } => need_more(missing),
         ReadSignedVint::Refused(e) => refusal(e),
         ReadSignedVint::Vint { value, length } => hand_out_signed(length as u64, value, out),
     }

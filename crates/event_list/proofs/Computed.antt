@@ -47,7 +47,7 @@ reads size (suc n) r s h = go (r .answer) refl h (reads size n (nextAnswer size 
     go (answer.Event e) q k others =
         let o = others k in
         record { all = answeredBy r ∷ o .all; to = goes-on r s q (o .to); lines = ap (λ (t : List ℕ). lineOf r ++ t) (o .lines) }
-    go answer.NeedMore q k others = alone size r s (rw q)
+    go (answer.NeedMore missing) q k others = alone size r s (rw q)
     go answer.Finished q k others = alone size r s (rw q)
     go (answer.Refused x) q k others = alone size r s (rw q)
 

@@ -117,9 +117,9 @@ record IsEvent (a : Answer) : Type 0 where
 -- a line is printed, and the list goes on, only after an event
 line-event : (a : Answer) (n room : ℕ) → nextOf a n room ≡ Line → IsEvent a
 line-event (answer.Event x) n room q = record { e = x; is = refl }
-line-event answer.NeedMore n room q = never-line (ltb n room) q
+line-event (answer.NeedMore missing) n room q = never-line (ltb n room) q
   where
-    never-line : (t : Bool) → cond t Read Last ≡ Line → IsEvent answer.NeedMore
+    never-line : {m : ℕ} (t : Bool) → cond t Read Last ≡ Line → IsEvent (answer.NeedMore m)
     never-line true e = let z : _≡_ {A = ℕ} 0 1 = cc in absurd-eq z
     never-line false e = let z : _≡_ {A = ℕ} 0 1 = cc in absurd-eq z
 line-event answer.Finished n room q = let z : _≡_ {A = ℕ} 0 1 = cc in absurd-eq z
@@ -128,14 +128,14 @@ line-event (answer.Refused r) n room q = let z : _≡_ {A = ℕ} 0 1 = cc in abs
 -- the last line is no event's
 last-no-event : (a : Answer) (n room : ℕ) → nextOf a n room ≡ Last → (e : Event) → a ≡ answer.Event e → ⊥
 last-no-event (answer.Event x) n room q e h = let z : _≡_ {A = ℕ} 0 1 = cc in absurd-eq z
-last-no-event answer.NeedMore n room q e h = let z : _≡_ {A = ℕ} 0 1 = cc in absurd-eq z
+last-no-event (answer.NeedMore missing) n room q e h = let z : _≡_ {A = ℕ} 0 1 = cc in absurd-eq z
 last-no-event answer.Finished n room q e h = let z : _≡_ {A = ℕ} 0 1 = cc in absurd-eq z
 last-no-event (answer.Refused r) n room q e h = let z : _≡_ {A = ℕ} 0 1 = cc in absurd-eq z
 
 -- where more is asked for, a full buffer makes it the last line
 last-full : (a : Answer) (n room : ℕ) → nextOf a n room ≡ Last → needsMore a ≡ true → room ≤ n
 last-full (answer.Event x) n room q m = absurd (false≢true m)
-last-full answer.NeedMore n room q m = by (ltb n room) refl q
+last-full (answer.NeedMore missing) n room q m = by (ltb n room) refl q
   where
     by : (t : Bool) → ltb n room ≡ t → cond t Read Last ≡ Last → room ≤ n
     by true e p = let z : _≡_ {A = ℕ} 0 1 = cc in absurd-eq z
@@ -146,7 +146,7 @@ last-full (answer.Refused r) n room q m = absurd (false≢true m)
 -- and there is room where a read is due
 read-space : (a : Answer) (n room : ℕ) → nextOf a n room ≡ Read → n < room
 read-space (answer.Event x) n room q = let z : _≡_ {A = ℕ} 0 1 = cc in absurd-eq z
-read-space answer.NeedMore n room q = by (ltb n room) refl q
+read-space (answer.NeedMore missing) n room q = by (ltb n room) refl q
   where
     by : (t : Bool) → ltb n room ≡ t → cond t Read Last ≡ Read → n < room
     by true e p = ltb-true n room e

@@ -52,9 +52,9 @@ raw x o begin end n = record { told = event (Data x o (Raw (record { begin = beg
 abbrev pub float : ℕ → ℕ → ℕ → ℕ → Call
 float x o bits n = record { told = event (Data x o (Float bits)); taken = n }
 
--- the answers that take nothing: need more, the finish, and a refusal by its number and place
+-- the answers that take nothing: need more where no byte is left, the finish, and a refusal by its number and place
 abbrev pub asksForMore : Call
-asksForMore = record { told = need-more; taken = 0 }
+asksForMore = record { told = need-more 2; taken = 0 }
 
 abbrev pub finishes : Call
 finishes = record { told = finish; taken = 0 }

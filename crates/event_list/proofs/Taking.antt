@@ -43,7 +43,7 @@ over-asks-no-more d s = eof-asks-no-more benchEntries benchParts d s
 -- a read is due only where more is asked for
 pub reads-on : (a : Answer) (n room : ℕ) → nextOf a n room ≡ Read → needsMore a ≡ true
 reads-on (answer.Event e) n room q = let z : _≡_ {A = ℕ} 0 1 = cc in absurd-eq z
-reads-on answer.NeedMore n room q = refl
+reads-on (answer.NeedMore missing) n room q = refl
 reads-on answer.Finished n room q = let z : _≡_ {A = ℕ} 0 1 = cc in absurd-eq z
 reads-on (answer.Refused r) n room q = let z : _≡_ {A = ℕ} 0 1 = cc in absurd-eq z
 

@@ -21,7 +21,7 @@ textLines (s ∷ l) = ascii s ++ (10 ∷ textLines l)
 -- a line, and behind an event's the list of what follows it: whether it comes to an end, and its text
 abbrev pub withOthers : Answer → List ℕ → (Unit {0} → Bool × List ℕ) → Bool × List ℕ
 withOthers (answer.Event e) text others = (others tt .0, text ++ others tt .1)
-withOthers answer.NeedMore text others = (true, text)
+withOthers (answer.NeedMore missing) text others = (true, text)
 withOthers answer.Finished text others = (true, text)
 withOthers (answer.Refused r) text others = (true, text)
 

@@ -64,7 +64,7 @@ positionText letter p = (letter ∷ []) ++ field (decimal p)
 -- an answer, with the decoder at position p; need more is listed only where the buffer is full
 unfoldable pub answerText : Answer → ℕ → List ℕ
 answerText (answer.Event e) p = eventText e
-answerText answer.NeedMore p = positionText 77 p
+answerText (answer.NeedMore missing) p = positionText 77 p
 answerText answer.Finished p = positionText 90 p
 answerText (answer.Refused r) p = refusalText r
 

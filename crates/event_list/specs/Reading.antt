@@ -55,7 +55,7 @@ called ended d s = cond ended (decodeEof benchEntries benchParts d s) (decode be
 -- has room; with every byte of it unread the element is larger than the buffer. "X and M end the list", and so does Z
 abbrev pub nextOf : Answer → ℕ → ℕ → Next
 nextOf (answer.Event e) n room = Line
-nextOf answer.NeedMore n room = cond (ltb n room) Read Last
+nextOf (answer.NeedMore missing) n room = cond (ltb n room) Read Last
 nextOf answer.Finished n room = Last
 nextOf (answer.Refused r) n room = Last
 

@@ -155,7 +155,7 @@ fn put_answer(answer: Answer, position: u64, out: &mut [u8]) -> usize
 {
     match answer {
         Answer::Event(e) => put_event(e, out),
-        Answer::NeedMore => put_position(b'M', position, out),
+        Answer::NeedMore { .. } => put_position(b'M', position, out),
         Answer::Finished => put_position(b'Z', position, out),
         Answer::Refused(r) => put_refusal(r, out),
     }

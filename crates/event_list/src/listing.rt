@@ -57,7 +57,7 @@ fn next_of(answer: Answer, unread: usize, room: usize) -> Next
 {
     match answer {
         Answer::Event(_) => Next::Line,
-        Answer::NeedMore => {
+        Answer::NeedMore { .. } => {
             if unread < room {
                 Next::Read
             } else {

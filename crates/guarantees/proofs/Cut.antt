@@ -66,7 +66,7 @@ cut-not-finished es ps cs s run n =
 
 not-quiet : (a : Answer) → isQuiet a ≡ false → needsMore a ≡ false
 not-quiet (answer.Event e) q = refl
-not-quiet answer.NeedMore q = absurd (true≢false q)
+not-quiet (answer.NeedMore missing) q = absurd (true≢false q)
 not-quiet answer.Finished q = refl
 not-quiet (answer.Refused r) q = refl
 
@@ -83,7 +83,7 @@ end-never-waits es ps d s = exit-no-more (eof-exits es ps d s)
 -- a decode call with no byte decides on an End, need more or the finish
 abbrev isEndOrNone : Action → Bool
 isEndOrNone (act.Refuse e) = false
-isEndOrNone act.NeedMore = true
+isEndOrNone (act.NeedMore missing) = true
 isEndOrNone act.Finish = true
 isEndOrNone act.HandOut = true
 isEndOrNone (act.Close k) = true
@@ -94,7 +94,7 @@ isEndOrNone (act.Data x v n) = false
 only-end : (d : TagDecoder) (a : Action) → isEndOrNone a ≡ true → isQuiet (move d a .answer) ≡ false → EndOr23 (move d a .answer)
 unfolding move
 only-end d (act.Refuse e) f q = absurd (false≢true f)
-only-end d act.NeedMore f q = absurd (true≢false q)
+only-end d (act.NeedMore missing) f q = absurd (true≢false q)
 only-end d act.Finish f q = absurd (true≢false q)
 only-end d act.HandOut f q = tt
 only-end d (act.Close k) f q = tt

@@ -145,7 +145,7 @@ still-cut es ps cs f p run k = record {
     go (answer.Event (event.Start x o)) e h = absurd h
     go (answer.Event (event.End end)) e h = outermost-stays es ps cs (ending []) run end f (_, same _ e) (k .outermost) near
     go (answer.Event (event.Data x o v)) e h = absurd h
-    go answer.NeedMore e h = absurd h
+    go (answer.NeedMore missing) e h = absurd h
     go answer.Finished e h = absurd h
     go (answer.Refused r) e h = ap outermostEnd (open-after es ps cs (answer.Refused r) e) ∙ k .outermost
 
@@ -201,7 +201,7 @@ comes-23 es ps (suc b) cs f p run k h =
         let r = rest (less (openAt es ps cs) (openAt es ps (ending [] ∷ cs)) (open-after es ps cs _ e) h) in
         (suc (r .0), omega (arith, r .1), subst (λ (l : List Call). answerRefusal (atTheEnd es ps l) ≡ 23) (again-later (r .0) cs) (r .2))
     go (answer.Event (event.Data x o v)) e h' rest = absurd h'
-    go answer.NeedMore e h' rest = absurd h'
+    go (answer.NeedMore missing) e h' rest = absurd h'
     go answer.Finished e h' rest = absurd h'
     go (answer.Refused r) e h' rest = (0, omega arith, ap answerRefusal e ∙ h')
 

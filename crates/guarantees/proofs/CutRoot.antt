@@ -108,8 +108,8 @@ module _ (es ps s rest : List ℕ) (f : ℕ) (w : BeginsWithMaster (tableOf es p
       let g' : ElementFacts t off b l 0 x o = subst (λ (q : ℕ). ElementFacts t off b l q x o) z (g .1) in
       absurd (no-master d (g .0 ∙ first-master t s rest f w b v byte (lies ∙ ap (λ (q : ℕ). drop q s) z) x o g'))
   told b v byte off l left p lies (answered (answer.Event (event.Data x o d)) n) g none unsearched stays (inside q) = inside q
-  told b v byte off l left p lies (answered answer.NeedMore n) g none unsearched stays (before z y) = before (omega (arith, z, none _ n refl refl)) y
-  told b v byte off l left p lies (answered answer.NeedMore n) g none unsearched stays (inside q) = inside q
+  told b v byte off l left p lies (answered (answer.NeedMore missing) n) g none unsearched stays (before z y) = before (omega (arith, z, none _ n refl refl)) y
+  told b v byte off l left p lies (answered (answer.NeedMore missing) n) g none unsearched stays (inside q) = inside q
   told b v byte off l left p lies (answered answer.Finished n) g none unsearched stays (before z y) = before (omega (arith, z, none _ n refl refl)) y
   told b v byte off l left p lies (answered answer.Finished n) g none unsearched stays (inside q) = inside q
   told b v byte off l left p lies (answered (answer.Refused r) n) g none unsearched stays (before z y) = before (omega (arith, z, none _ n refl refl)) y

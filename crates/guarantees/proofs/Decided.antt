@@ -182,7 +182,7 @@ pub record Closes (d : TagDecoder) (n : ℕ) : Type 0 where
 -- d has the note
 abbrev pub Facts : List Entry → TagDecoder → List ℕ → Action → Type 0
 Facts t d s (act.Refuse e) = Mild d e
-Facts t d s act.NeedMore = Reading d
+Facts t d s (act.NeedMore missing) = Reading d
 Facts t d s act.Finish = (d .«waiting_count» ≡ 0) × (d .finished ≡ true)
 Facts t d s act.HandOut = Unit {0}
 Facts t d s (act.Close k) = Closes d k
@@ -372,8 +372,8 @@ module _ (es ps : List ℕ) (shape : goodShape es ps ≡ true) (passed : PassedT
   reading-by : exit.Reading es ps d s → Reading d
   reading-by r = record { none-waiting = r .none-waiting; unfinished = r .unfinished }
 
-  more-facts : NoneFull es ps d s → AllFacts ps (tableOf es ps) d s (plain act.NeedMore)
-  more-facts n = plain-facts act.NeedMore (reading-by (n .reading))
+  more-facts : {m : ℕ} → NoneFull es ps d s → AllFacts ps (tableOf es ps) d s (plain (act.NeedMore m))
+  more-facts {m} n = plain-facts (act.NeedMore m) (reading-by (n .reading))
 
   exit-facts : {a : Decision} → Exit es ps d s a → AllFacts ps (tableOf es ps) d s a
   exit-facts (exit.refused-first x e) = plain-facts (act.Refuse x) (let q = only-far es ps d (length s) shape good e .number in mild d x (omega arith))

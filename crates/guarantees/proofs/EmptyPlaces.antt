@@ -134,7 +134,7 @@ module _ (d : TagDecoder) (k : Tidy d) where
 move-tidy : (d : TagDecoder) → Tidy d → (n : ℕ) (a : Action) → ActionApplies d n a → Tidy (move d a .state)
 unfolding move ActionApplies withNotes
 move-tidy d k n (act.Refuse e) f = k
-move-tidy d k n act.NeedMore f = k
+move-tidy d k n (act.NeedMore missing) f = k
 move-tidy d k n act.Finish f = k
 move-tidy d k n act.HandOut f = handed-tidy d k
 move-tidy d k n (act.Close i) f = closed-tidy d k i (omega (arith, f .0))
@@ -172,7 +172,7 @@ module _ (es ps : List ℕ) (shape : goodShape es ps ≡ true) where
   place-applies d s = go (readHeader (tableOf es ps) s) refl
     where
       go : (r : ReadHeader) → readHeader (tableOf es ps) s ≡ r → NoteApplies ps (readNote (tableOf es ps) d r)
-      go header.NeedMore e = note-none ps
+      go (header.NeedMore missing) e = note-none ps
       go (header.Refused x) e = note-none ps
       go (header.Header h) e =
           pick (NoteApplies ps) (step6 d h) (step7 (tableOf es ps) d h) NoNote

@@ -45,7 +45,7 @@ Emptied d = d .finished ≡ true → d .«open_count» ≡ 0
 -- what is done after the end of input: no note, and no action that opens or closes
 abbrev isStill : Action → Bool
 isStill (act.Refuse e) = true
-isStill act.NeedMore = true
+isStill (act.NeedMore missing) = true
 isStill act.Finish = true
 isStill act.HandOut = true
 isStill (act.Close k) = false
@@ -76,7 +76,7 @@ module _ (es ps : List ℕ) (d : TagDecoder) (s : List ℕ) where
   still-count : (a : Action) → isStill a ≡ true → move d a .state .«open_count» ≡ d .«open_count»
   unfolding move handedOut withWaiting
   still-count (act.Refuse e) q = refl
-  still-count act.NeedMore q = refl
+  still-count (act.NeedMore missing) q = refl
   still-count act.Finish q = refl
   still-count act.HandOut q = refl
   still-count (act.Close k) q = absurd (false≢true q)

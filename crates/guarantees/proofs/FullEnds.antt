@@ -96,7 +96,7 @@ told-kept t s (answered (answer.Event (event.End end)) n) l ever p full none k m
     go (m' ∷ rest) u j =
         ⊎-elim (λ q. absurd (omega (arith, u m' rest refl (ap (λ (z : Started). z .end) (sym q) ∙ e), h))) (λ z. z) (List·Memᴰ·cases-cons j)
 told-kept t s (answered (answer.Event (event.Data y o v)) n) l ever p full none k m i f e h = k m i f e (less p n f h)
-told-kept t s (answered answer.NeedMore n) l ever p full none k m i f e h = k m i f e (less p n f h)
+told-kept t s (answered (answer.NeedMore missing) n) l ever p full none k m i f e h = k m i f e (less p n f h)
 told-kept t s (answered answer.Finished n) l ever p full none k m i f e h = k m i f e (less p n f h)
 told-kept t s (answered (answer.Refused r) n) l ever p full none k m i f e h = k m i f e (less p n f h)
 told-kept t s (searched a n) l ever p full none k m i f e h = absurd (none a n refl)

@@ -40,7 +40,7 @@ use Rattle.guarantees.proofs.AnyCalls.{ResponseFacts, MeasuredResponse,
 never : (t : List Entry) (off : Bool) (s : List ℕ) (starts : List Started) (left : List ℕ) (p m : ℕ) → (m ≡ 0 → ⊥) → (m ≡ 12 → ⊥)
     → ((e : DecodeError) → RefusalFacts t off s starts left p e → errorNumber e ≡ m → ⊥) → (x : Response) → ResponseFacts t off s starts left p x → refusalOf x ≡ m → ⊥
 never t off s starts left p m z w f (answered (answer.Event e) n) k q = z (sym q)
-never t off s starts left p m z w f (answered answer.NeedMore n) k q = z (sym q)
+never t off s starts left p m z w f (answered (answer.NeedMore missing) n) k q = z (sym q)
 never t off s starts left p m z w f (answered answer.Finished n) k q = z (sym q)
 never t off s starts left p m z w f (answered (answer.Refused r) n) k q = f (r .error) k q
 never t off s starts left p m z w f (searched search.Found n) k q = z (sym q)
@@ -52,7 +52,7 @@ never t off s starts left p m z w f silent k q = z (sym q)
 full-at-19 : (t : List Entry) (off : Bool) (s : List ℕ) (starts : List Started) (left : List ℕ) (p : ℕ) (x : Response) → ResponseFacts t off s starts left p x → refusalOf x ≡ 19
     → length (stack starts left) ≡ 32
 full-at-19 t off s starts left p (answered (answer.Event e) n) k q = absurd (omega arith)
-full-at-19 t off s starts left p (answered answer.NeedMore n) k q = absurd (omega arith)
+full-at-19 t off s starts left p (answered (answer.NeedMore missing) n) k q = absurd (omega arith)
 full-at-19 t off s starts left p (answered answer.Finished n) k q = absurd (omega arith)
 full-at-19 t off s starts left p (answered (answer.Refused r) n) k q = k .at-19 q
 full-at-19 t off s starts left p (searched search.Found n) k q = absurd (omega arith)

@@ -59,7 +59,7 @@ told-loose t passed off s starts left p (answered (answer.Event (event.Start y o
 told-loose t passed off s starts left p (answered (answer.Event (event.End end)) n) f e a b =
     absurd (subst (λ (l : List ℕ). EndMatches [] l end) b (subst (λ (l : List Started). EndMatches l left end) a (f .1)))
 told-loose t passed off s starts left p (answered (answer.Event (event.Data y o v)) n) f e a b = ap not (loose-id t s y (f .1 .heads) e)
-told-loose t passed off s starts left p (answered answer.NeedMore n) f e a b = refl
+told-loose t passed off s starts left p (answered (answer.NeedMore missing) n) f e a b = refl
 told-loose t passed off s starts left p (answered answer.Finished n) f e a b = refl
 told-loose t passed off s starts left p (answered (answer.Refused r) n) f e a b = refl
 told-loose t passed off s starts left p (searched a' n) f e a b = refl

@@ -57,7 +57,7 @@ use Rattle.guarantees.proofs.Recovery.{recover-keeps}
 -- the number of the refusal that was decided; 0 for any other action
 abbrev actionRefusal : Action → ℕ
 actionRefusal (act.Refuse e) = errorNumber e
-actionRefusal act.NeedMore = 0
+actionRefusal (act.NeedMore missing) = 0
 actionRefusal act.Finish = 0
 actionRefusal act.HandOut = 0
 actionRefusal (act.Close k) = 0
@@ -67,7 +67,7 @@ actionRefusal (act.Data x v n) = 0
 move-refusal : (d : TagDecoder) (a : Action) → answerRefusal (move d a .answer) ≡ actionRefusal a
 unfolding move
 move-refusal d (act.Refuse e) = refl
-move-refusal d act.NeedMore = refl
+move-refusal d (act.NeedMore missing) = refl
 move-refusal d act.Finish = refl
 move-refusal d act.HandOut = refl
 move-refusal d (act.Close k) = refl
@@ -155,7 +155,7 @@ module _ (es ps : List ℕ) (shape : goodShape es ps ≡ true) (d : TagDecoder) 
 
   quiet-late : (a : Answer) → isQuiet a ≡ true → answerRefusal a ≡ 0
   quiet-late (answer.Event e) q = refl
-  quiet-late answer.NeedMore q = refl
+  quiet-late (answer.NeedMore missing) q = refl
   quiet-late answer.Finished q = refl
   quiet-late (answer.Refused r) q = absurd (false≢true q)
 
@@ -183,7 +183,7 @@ module _ (t : List Entry) where
   place-seen d s u = go (readHeader t s)
     where
       go : (r : ReadHeader) → readNote t d r ≡ settleHeader t r
-      go header.NeedMore = refl
+      go (header.NeedMore missing) = refl
       go (header.Refused x) = refl
       go (header.Header h) =
           pick (λ (n : Note). n ≡ settleHeader t (header.Header h)) (step6 d h) (step7 t d h) NoNote (λ f. unsettled-step7 t d h u)

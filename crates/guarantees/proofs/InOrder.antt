@@ -39,7 +39,7 @@ abbrev pub isElement : Answer → Bool
 isElement (answer.Event (event.Start x o)) = true
 isElement (answer.Event (event.End end)) = false
 isElement (answer.Event (event.Data x o v)) = true
-isElement answer.NeedMore = false
+isElement (answer.NeedMore missing) = false
 isElement answer.Finished = false
 isElement (answer.Refused r) = false
 
@@ -51,7 +51,7 @@ module _ (es ps : List ℕ) (d : TagDecoder) where
       go (answer.Event (event.Start x o)) q e = absurd (true≢false e)
       go (answer.Event (event.End end)) q e = end-takes-nothing es ps d s q
       go (answer.Event (event.Data x o v)) q e = absurd (true≢false e)
-      go answer.NeedMore q e = decode-stays es ps d s (ap isNoEvent q) .none
+      go (answer.NeedMore missing) q e = decode-stays es ps d s (ap isNoEvent q) .none
       go answer.Finished q e = decode-stays es ps d s (ap isNoEvent q) .none
       go (answer.Refused r) q e = decode-stays es ps d s (ap isNoEvent q) .none
 

@@ -65,7 +65,7 @@ nested-told t s starts left p (answered (answer.Event (event.Start y o)) n) f h 
     (inside-all (declaredEnd t o s) starts (subst (λ (q : ℕ). Ends false (declaredEnd t q s) starts) (sym (f .1 .offset)) (f .1 .inside)), h)
 nested-told t s starts left p (answered (answer.Event (event.End end)) n) f h = nested-drop starts h
 nested-told t s starts left p (answered (answer.Event (event.Data y o v)) n) f h = h
-nested-told t s starts left p (answered answer.NeedMore n) f h = h
+nested-told t s starts left p (answered (answer.NeedMore missing) n) f h = h
 nested-told t s starts left p (answered answer.Finished n) f h = h
 nested-told t s starts left p (answered (answer.Refused r) n) f h = h
 nested-told t s starts left p (searched search.Found n) f h = nested-later n starts h

@@ -34,7 +34,7 @@ use Rattle.guarantees.specs.Settling.{orElse}
 
 -- the note of what was read at a place
 abbrev pub readNote : List Entry → TagDecoder → ReadHeader → Note
-readNote t d header.NeedMore = NoNote
+readNote t d (header.NeedMore missing) = NoNote
 readNote t d (header.Refused x) = NoNote
 readNote t d (header.Header h) = cond (step6 d h) (step7 t d h) NoNote
 
@@ -71,7 +71,7 @@ module _ (ps : List ℕ) (t : List Entry) (d : TagDecoder) where
   place-leaves s = go (readHeader t s)
     where
       go : (r : ReadHeader) → Leaves ps d (readNote t d r) (readAt ps t d r)
-      go header.NeedMore = unfold noted in record { state = refl }
+      go (header.NeedMore missing) = unfold noted in record { state = refl }
       go (header.Refused x) = unfold noted in record { state = refl }
       go (header.Header h) = header-leaves h
 
@@ -89,7 +89,7 @@ unfolding placeNote
 settled-place t d s u = go (readHeader t s)
   where
     go : (r : ReadHeader) → readNote t d r ≡ NoNote
-    go header.NeedMore = refl
+    go (header.NeedMore missing) = refl
     go (header.Refused x) = refl
     go (header.Header h) = pick (λ (n : Note). n ≡ NoNote) (step6 d h) (step7 t d h) NoNote (λ f. settled-step7 t d h u) (λ f. refl)
 

@@ -177,7 +177,7 @@ module _ (es ps : List ℕ) (shape : goodShape es ps ≡ true) (passed : PassedT
   place-facts d s = go (readHeader (tableOf es ps) s) refl
     where
       go : (r : ReadHeader) → readHeader (tableOf es ps) s ≡ r → NoteFacts ps (tableOf es ps) d (readNote (tableOf es ps) d r)
-      go header.NeedMore e = tt
+      go (header.NeedMore missing) e = tt
       go (header.Refused x) e = tt
       go (header.Header h) e = pick (NoteFacts ps (tableOf es ps) d) (step6 d h) (step7 (tableOf es ps) d h) NoNote (λ f. step7-facts es ps shape passed s h e d) (λ f. tt)
 

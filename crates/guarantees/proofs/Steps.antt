@@ -96,7 +96,7 @@ module _ (t : List Entry) (off : Bool) (s : List ℕ) (starts : List Started) (l
   -- what is promised of an answer
   abbrev pub AnswerFacts : Answer → Type 0
   AnswerFacts (answer.Event e) = EventFacts e
-  AnswerFacts answer.NeedMore = Unit {0}
+  AnswerFacts (answer.NeedMore missing) = Unit {0}
   AnswerFacts answer.Finished = starts ≡ []
   AnswerFacts (answer.Refused r) = RefusalFacts (r .error)
 
@@ -104,7 +104,7 @@ module _ (t : List Entry) (off : Bool) (s : List ℕ) (starts : List Started) (l
 -- finished
 abbrev pub Quiet : Answer → ℕ → TagDecoder → Type 0
 Quiet (answer.Event e) n d = Unit {0}
-Quiet answer.NeedMore n d = (n ≡ 0) × (d .«waiting_count» ≡ 0)
+Quiet (answer.NeedMore missing) n d = (n ≡ 0) × (d .«waiting_count» ≡ 0)
 Quiet answer.Finished n d = (n ≡ 0) × (d .«waiting_count» ≡ 0) × (d .finished ≡ true)
 Quiet (answer.Refused r) n d = Unit {0}
 
@@ -117,7 +117,7 @@ MeasuredEvent t s p (event.Data x o v) n = WholeData t s p n v
 -- the same of an answer
 abbrev pub Measured : List Entry → List ℕ → ℕ → Answer → ℕ → Type 0
 Measured t s p (answer.Event e) n = MeasuredEvent t s p e n
-Measured t s p answer.NeedMore n = Unit {0}
+Measured t s p (answer.NeedMore missing) n = Unit {0}
 Measured t s p answer.Finished n = Unit {0}
 Measured t s p (answer.Refused r) n = Unit {0}
 
@@ -131,7 +131,7 @@ BatchEvent l p (event.Data x o v) e = Unit {0}
 -- the same of an answer
 abbrev pub Batch : List Started → ℕ → Answer → TagDecoder → Type 0
 Batch l p (answer.Event x) e = BatchEvent l p x e
-Batch l p answer.NeedMore e = Unit {0}
+Batch l p (answer.NeedMore missing) e = Unit {0}
 Batch l p answer.Finished e = Unit {0}
 Batch l p (answer.Refused r) e = Unit {0}
 
@@ -214,7 +214,7 @@ module _ (t : List Entry) (d : TagDecoder) (s : List ℕ) (starts : List Started
     kept = refl;
   }
 
-  more-called : Reading d → Called t (d .settings .«allow_oversized») s starts left (d .position) answer.NeedMore 0 d
+  more-called : {m : ℕ} → Reading d → Called t (d .settings .«allow_oversized») s starts left (d .position) (answer.NeedMore m) 0 d
   more-called r = record { promised = tt; quiet = (refl, r .none-waiting); measured = tt; batch = tt; tied = same-place; closes-full = k .full; kept = refl }
 
   finished-called : d .«waiting_count» ≡ 0 → d .finished ≡ true → Called t (d .settings .«allow_oversized») s starts left (d .position) answer.Finished 0 d
@@ -325,7 +325,7 @@ module _ (t : List Entry) (d : TagDecoder) (s : List ℕ) (starts : List Started
       → Called t (d .settings .«allow_oversized») s starts left (d .position) (move d a .answer) (move d a .taken) (move d a .state)
   unfolding move
   move-called (act.Refuse e) g f = refused-called e (d .position) f
-  move-called act.NeedMore g f = more-called f
+  move-called (act.NeedMore missing) g f = more-called f
   move-called act.Finish g f = finished-called (f .0) (f .1)
   move-called act.HandOut g f = handed-called (hands-out d (length s) g)
   move-called (act.Close n) g f = closed-called n (closes d (length s) n g .0) f
@@ -461,14 +461,14 @@ module _ (t : List Entry) (d : TagDecoder) (s : List ℕ) (starts : List Started
 
 quiet-waits : (a : Answer) (n : ℕ) (e : TagDecoder) → Quiet a n e → isQuiet a ≡ true → e .«waiting_count» ≡ 0
 quiet-waits (answer.Event x) n e f q = absurd (false≢true q)
-quiet-waits answer.NeedMore n e f q = f .1
+quiet-waits (answer.NeedMore missing) n e f q = f .1
 quiet-waits answer.Finished n e f q = f .1
 quiet-waits (answer.Refused x) n e f q = absurd (false≢true q)
 
 -- an answer after which the end of input is looked at hands nothing over
 pub quiet-no-event : (a : Answer) → isQuiet a ≡ true → isNoEvent a ≡ true
 quiet-no-event (answer.Event x) q = q
-quiet-no-event answer.NeedMore q = refl
+quiet-no-event (answer.NeedMore missing) q = refl
 quiet-no-event answer.Finished q = refl
 quiet-no-event (answer.Refused x) q = refl
 

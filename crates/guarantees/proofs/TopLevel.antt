@@ -140,7 +140,7 @@ told-top t s l left p g (answered (answer.Event (event.Start y o)) n) ever f m n
 told-top t s l left p g (answered (answer.Event (event.End end)) n) ever f m none unsearched full ks kl at =
     end-top t s end n p l g (none _ n refl refl) kl (λ e m' rest q u. full end n e m' rest refl q u) at
 told-top t s l left p g (answered (answer.Event (event.Data y o v)) n) ever f m none unsearched full ks kl at = data-top t s y o n p v l g m (f .1 .offset) (f .1 .inside) at
-told-top t s l left p g (answered answer.NeedMore n) ever f m none unsearched full ks kl at = same-top g l p n (none _ n refl refl) at
+told-top t s l left p g (answered (answer.NeedMore missing) n) ever f m none unsearched full ks kl at = same-top g l p n (none _ n refl refl) at
 told-top t s l left p g (answered answer.Finished n) ever f m none unsearched full ks kl at = same-top g l p n (none _ n refl refl) at
 told-top t s l left p g (answered (answer.Refused r) n) ever f m none unsearched full ks kl at = same-top g l p n (none _ n refl refl) at
 told-top t s l left p g (searched a n) ever f m none unsearched full ks kl at = absurd (unsearched a n refl)
@@ -155,7 +155,7 @@ told-known t s l ever (answered (answer.Event (event.Start y o)) n) unsearched k
     (b .right, and-both (b .left) (h (b .right)))
 told-known t s l ever (answered (answer.Event (event.End end)) n) unsearched k h = (k, every-drop (λ (m : Started). isKnown (m .end)) 1 l (h k))
 told-known t s l ever (answered (answer.Event (event.Data y o v)) n) unsearched k h = (k, h k)
-told-known t s l ever (answered answer.NeedMore n) unsearched k h = (k, h k)
+told-known t s l ever (answered (answer.NeedMore missing) n) unsearched k h = (k, h k)
 told-known t s l ever (answered answer.Finished n) unsearched k h = (k, h k)
 told-known t s l ever (answered (answer.Refused r) n) unsearched k h = (k, h k)
 told-known t s l ever (searched a n) unsearched k h = absurd (unsearched a n refl)

@@ -50,7 +50,7 @@ told-row t s b rest off (m ∷ l) left p g (answered (answer.Event (event.End en
 told-row t s b rest off [] left p g (answered (answer.Event (event.Data y o v)) n) byte lies k at row f q =
     after p f (row p (none-open g p at)) (declared-longer t s b rest p y f byte lies (k .1 .heads) (subst (λ (z : ℕ). declaredEnd t z b ≡ Number f) (k .1 .offset) q))
 told-row t s b rest off (m ∷ l) left p g (answered (answer.Event (event.Data y o v)) n) byte lies k at row f q = row f q
-told-row t s b rest off l left p g (answered answer.NeedMore n) byte lies k at row f q = row f q
+told-row t s b rest off l left p g (answered (answer.NeedMore missing) n) byte lies k at row f q = row f q
 told-row t s b rest off l left p g (answered answer.Finished n) byte lies k at row f q = row f q
 told-row t s b rest off l left p g (answered (answer.Refused r) n) byte lies k at row f q = row f q
 told-row t s b rest off l left p g (searched a n) byte lies k at row f q = row f q

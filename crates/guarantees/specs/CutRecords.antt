@@ -64,7 +64,7 @@ startedByEvent t s (event.Data x o v) l = l
 -- those that were answered, with what a call on the bytes s told
 abbrev pub startedBy : List Entry → List ℕ → Response → List Started → List Started
 startedBy t s (answered (answer.Event e) n) l = startedByEvent t s e l
-startedBy t s (answered answer.NeedMore n) l = l
+startedBy t s (answered (answer.NeedMore missing) n) l = l
 startedBy t s (answered answer.Finished n) l = l
 startedBy t s (answered (answer.Refused r) n) l = l
 startedBy t s (searched a n) l = l
@@ -96,7 +96,7 @@ topByEvent t s (m ∷ l) e f = f
 -- the same after what any call told
 abbrev pub topBy : List Entry → List ℕ → List Started → Response → Optional → Optional
 topBy t s l (answered (answer.Event e) n) f = topByEvent t s l e f
-topBy t s l (answered answer.NeedMore n) f = f
+topBy t s l (answered (answer.NeedMore missing) n) f = f
 topBy t s l (answered answer.Finished n) f = f
 topBy t s l (answered (answer.Refused r) n) f = f
 topBy t s l (searched a n) f = f

@@ -31,7 +31,7 @@ endAfter p (Known n) = Number (p + n)
 
 -- the same of what was read as a header at p: nothing, unless it is a header of known size
 abbrev pub headerEnd : ℕ → ReadHeader → Optional
-headerEnd p header.NeedMore = Nothing
+headerEnd p (header.NeedMore missing) = Nothing
 headerEnd p (header.Refused e) = Nothing
 headerEnd p (header.Header h) = endAfter (p + h .len) (h .size)
 
@@ -66,7 +66,7 @@ module _ (t : List Entry) (s : List ℕ) where
   -- of the answers only an event changes which Starts are open
   abbrev pub afterAnswer : Answer → List Started → List Started
   afterAnswer (answer.Event e) l = afterEvent e l
-  afterAnswer answer.NeedMore l = l
+  afterAnswer (answer.NeedMore missing) l = l
   afterAnswer answer.Finished l = l
   afterAnswer (answer.Refused r) l = l
 
@@ -124,7 +124,7 @@ leftByEvent (event.Data x o v) starts l = l
 -- the parents that an answer leaves
 abbrev pub leftByAnswer : Answer → List Started → List ℕ → List ℕ
 leftByAnswer (answer.Event e) starts l = leftByEvent e starts l
-leftByAnswer answer.NeedMore starts l = l
+leftByAnswer (answer.NeedMore missing) starts l = l
 leftByAnswer answer.Finished starts l = l
 leftByAnswer (answer.Refused r) starts l = l
 

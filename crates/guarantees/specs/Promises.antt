@@ -124,7 +124,7 @@ isLoose t (event.Data x o v) = not (isTyped (dataTypeOf t x) && onlyIds (pathOf 
 -- the same of any answer: it is no other event
 abbrev pub answersLoose : List Entry → Response → Bool
 answersLoose t (answered (answer.Event e) n) = isLoose t e
-answersLoose t (answered answer.NeedMore n) = true
+answersLoose t (answered (answer.NeedMore missing) n) = true
 answersLoose t (answered answer.Finished n) = true
 answersLoose t (answered (answer.Refused r) n) = true
 answersLoose t (searched a n) = true
@@ -165,7 +165,7 @@ abbrev pub EndOr23 : Answer → Type 0
 EndOr23 (answer.Event (event.Start x o)) = ⊥
 EndOr23 (answer.Event (event.End end)) = Unit {0}
 EndOr23 (answer.Event (event.Data x o v)) = ⊥
-EndOr23 answer.NeedMore = ⊥
+EndOr23 (answer.NeedMore missing) = ⊥
 EndOr23 answer.Finished = ⊥
 EndOr23 (answer.Refused r) = errorNumber (r .error) ≡ 23
 

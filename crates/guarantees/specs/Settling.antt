@@ -32,7 +32,7 @@ orElse (Settle path) later = Settle path
 
 -- the note of what was read as a header, where nothing has settled yet
 abbrev pub settleHeader : List Entry → ReadHeader → Note
-settleHeader t header.NeedMore = NoNote
+settleHeader t (header.NeedMore missing) = NoNote
 settleHeader t (header.Refused e) = NoNote
 settleHeader t (header.Header h) = cond (isTyped (h .kind) && onlyIds (pathOf t (h .id))) (Settle (h .path)) NoNote
 

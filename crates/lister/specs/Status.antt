@@ -7,6 +7,6 @@ use Rattle.decoder_rules.specs.declared.types.Answer.the-variants as answer
 -- the digit of the exit status, where the list ends with an answer
 abbrev pub statusOf : Answer → ℕ
 statusOf (answer.Event e) = 50
-statusOf answer.NeedMore = 49
+statusOf (answer.NeedMore missing) = 49
 statusOf answer.Finished = 48
 statusOf (answer.Refused r) = 49

@@ -19,7 +19,7 @@ pub fn status_of(answer: Answer) -> u8
 {
     match answer {
         Answer::Event(_) => BROKEN,
-        Answer::NeedMore => b'1',
+        Answer::NeedMore { .. } => b'1',
         Answer::Finished => b'0',
         Answer::Refused(_) => b'1',
     }

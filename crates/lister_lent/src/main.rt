@@ -67,7 +67,7 @@ fn step(input: &[u8], p: Progress) -> Progress
     let mut is_last = true;
     match answer {
         Answer::Event(_) => is_last = false,
-        Answer::NeedMore => {
+        Answer::NeedMore { .. } => {
             return Progress {
                 state,
                 at: next,

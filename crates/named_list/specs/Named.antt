@@ -137,7 +137,7 @@ tooLargeText p = ascii "too large at " ++ decimal p ++ ascii ": the element does
 -- the text of an answer, after the record d that it left, what was seen before it, and the bytes taken so far
 unfoldable pub answerText : Answer → TagDecoder → Seen → List ℕ → List ℕ
 answerText (answer.Event e) d s taken = indentation (depthOf e d) ++ eventText e d (s .starts) taken
-answerText answer.NeedMore d s taken = tooLargeText (d .position)
+answerText (answer.NeedMore missing) d s taken = tooLargeText (d .position)
 answerText answer.Finished d s taken = finishText (d .position) (s .«front_missing») (s .«size_missing»)
 answerText (answer.Refused r) d s taken = refusalText r (d .position)
 

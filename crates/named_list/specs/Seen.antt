@@ -34,6 +34,6 @@ seenEvent (Data x p v) d s = s
 -- after an answer
 unfoldable pub seenAfter : Answer → TagDecoder → Seen → Seen
 seenAfter (answer.Event e) d s = seenEvent e d s
-seenAfter answer.NeedMore d s = s
+seenAfter (answer.NeedMore missing) d s = s
 seenAfter answer.Finished d s = s
 seenAfter (answer.Refused r) d s = s

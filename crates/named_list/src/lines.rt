@@ -38,7 +38,7 @@ fn put_answer(answer: Answer, d: TagDecoder, s: Seen, taken: &[u8], out: &mut [u
 {
     match answer {
         Answer::Event(e) => put_indented(e, d, s.starts, taken, out),
-        Answer::NeedMore => put_too_large(d.position, out, 0),
+        Answer::NeedMore { .. } => put_too_large(d.position, out, 0),
         Answer::Finished => put_finish(d.position, s.front_missing, s.size_missing, out, 0),
         Answer::Refused(r) => put_refusal(r, d.position, out, 0),
     }

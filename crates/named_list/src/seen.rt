@@ -93,7 +93,7 @@ pub fn seen_after(answer: Answer, d: TagDecoder, s: Seen) -> Seen
 {
     match answer {
         Answer::Event(e) => seen_event(e, d, s),
-        Answer::NeedMore => s,
+        Answer::NeedMore { .. } => s,
         Answer::Finished => s,
         Answer::Refused(_) => s,
     }

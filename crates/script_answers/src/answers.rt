@@ -191,13 +191,21 @@ fn put_letter_reached(letter: u8, taken: usize, position: u64, out: &mut [u8]) -
     put_reached(taken, position, out, at)
 }
 
+// Need more: what the call reached, and how many bytes are missing.
+fn put_need_more(missing: usize, taken: usize, position: u64, out: &mut [u8]) -> usize
+    ensures { λ r. ⌜ r ≤ length (now (out .entry)) ⌝ }
+{
+    let at = put_letter_reached(b'N', taken, position, out);
+    put_named(b" need=", missing as u64, out, at)
+}
+
 // The answer, with the count of bytes taken and the position after the call where it is no refusal.
 pub fn put_answer(answer: Answer, taken: usize, position: u64, out: &mut [u8]) -> usize
     ensures { λ r. ⌜ r ≤ length (now (out .entry)) ⌝ }
 {
     match answer {
         Answer::Event(e) => put_event_reached(e, taken, position, out),
-        Answer::NeedMore => put_letter_reached(b'N', taken, position, out),
+        Answer::NeedMore { missing } => put_need_more(missing, taken, position, out),
         Answer::Finished => put_letter_reached(b'F', taken, position, out),
         Answer::Refused(r) => put_refusal(r, out),
     }

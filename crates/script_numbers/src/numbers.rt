@@ -44,11 +44,19 @@ fn refused_at_0(e: ToolError, out: &mut [u8]) -> usize
     refused(number_and_place(e).number, out)
 }
 
+// Need more, and how many bytes are missing.
+fn needs_more(missing: usize, out: &mut [u8]) -> usize
+    ensures { λ r. ⌜ r ≤ length (now (out .entry)) ⌝ }
+{
+    let at = put_text(b"N need=", out, 0);
+    put_decimal(missing as u64, out, at)
+}
+
 fn vint_read(r: ReadVint, out: &mut [u8]) -> usize
     ensures { λ r. ⌜ r ≤ length (now (out .entry)) ⌝ }
 {
     match r {
-        ReadVint::NeedMore => put(b'N', out, 0),
+        ReadVint::NeedMore { missing } => needs_more(missing, out),
         ReadVint::Refused(e) => refused_at_0(e, out),
         ReadVint::Vint { value, length } => {
             let after_v = put_text(b"V ", out, 0);
@@ -63,7 +71,7 @@ fn signed_vint_read(r: ReadSignedVint, out: &mut [u8]) -> usize
     ensures { λ r. ⌜ r ≤ length (now (out .entry)) ⌝ }
 {
     match r {
-        ReadSignedVint::NeedMore => put(b'N', out, 0),
+        ReadSignedVint::NeedMore { missing } => needs_more(missing, out),
         ReadSignedVint::Refused(e) => refused_at_0(e, out),
         ReadSignedVint::Vint { value, length } => {
             let after_v = put_text(b"V ", out, 0);

@@ -43,7 +43,7 @@ use Rattle.tag_decoder.proofs.Recovering.{EndWell, end-well}
 taken-within : (d : TagDecoder) (n : ℕ) (a : Action) → ActionApplies d n a → move d a .taken ≤ n
 unfolding ActionApplies move
 taken-within d n (act.Refuse e) f = omega arith
-taken-within d n act.NeedMore f = omega arith
+taken-within d n (act.NeedMore missing) f = omega arith
 taken-within d n act.Finish f = omega arith
 taken-within d n act.HandOut f = omega arith
 taken-within d n (act.Close k) f = omega arith

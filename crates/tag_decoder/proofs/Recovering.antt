@@ -102,7 +102,7 @@ module _ (es ps : List ℕ) (shape : goodShape es ps ≡ true) (d : TagDecoder) 
   place-well s byte = go (readHeader (tableOf es ps) s) refl
     where
       go : (r : ReadHeader) → readHeader (tableOf es ps) s ≡ r → Well d (readAt ps (tableOf es ps) d r)
-      go header.NeedMore e = stays d d Stop refl g refl
+      go (header.NeedMore missing) e = stays d d Stop refl g refl
       go (header.Refused x) e = goes d d g refl n
       go (header.Header h) e = header-well h (good-header es ps s h shape byte e)
 

@@ -40,7 +40,7 @@ pub fn decode(entries: &[u64], parts: &[u64], mut d: TagDecoder, input: &[u8]) -
     let taken = taken_by(action);
     match action {
         Action::Refuse(_) => {}
-        Action::NeedMore => {}
+        Action::NeedMore { .. } => {}
         Action::Finish => {}
         Action::HandOut => d = handed_out(d),
         Action::Close(k) => d = closed_to(d, k),
@@ -68,7 +68,7 @@ pub fn decode_eof(entries: &[u64], parts: &[u64], d: TagDecoder, input: &[u8]) -
     let state = r.state;
     match answer {
         Answer::Event(_) => r,
-        Answer::NeedMore => end_of_input(entries, parts, state, input),
+        Answer::NeedMore { .. } => end_of_input(entries, parts, state, input),
         Answer::Finished => end_of_input(entries, parts, state, input),
         Answer::Refused(_) => r,
     }

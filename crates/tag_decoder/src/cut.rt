@@ -62,7 +62,13 @@ pub fn cut_bytes(position: u64, input: &[u8]) -> Cut
             id_len + length,
             size_of(value, length),
         ),
-        ReadVint::NeedMore => cut_at(position, n, Optional::Number(id), Optional::Nothing, 0),
+        ReadVint::NeedMore { .. } => cut_at(
+            position,
+            n,
+            Optional::Number(id),
+            Optional::Nothing,
+            0,
+        ),
         ReadVint::Refused(_) => cut_at(position, n, Optional::Number(id), Optional::Nothing, 0),
     }
 }

@@ -72,7 +72,7 @@ fn place_at(entries: &[u64], parts: &[u64], d: TagDecoder, input: &[u8]) -> Plac
     ensures { λ r. ⌜ r ≡ placeAt (now (parts .entry)) (tableOf (now (entries .entry)) (now (parts .entry))) d (now (input .entry)) ⌝ }
 {
     match read_header(entries, parts, input) {
-        ReadHeader::NeedMore => PlaceResult {
+        ReadHeader::NeedMore { .. } => PlaceResult {
             place: Place::Stop,
             state: d,
         },

@@ -18,14 +18,14 @@ use Rattle.decoder_rules.proofs.MoveLaws.{withNote, finished-by, decode-finishe
 -- an answer after which the end of input is not looked at does not ask for more
 loud-asks-no-more : (a : Answer) → isQuiet a ≡ false → needsMore a ≡ false
 loud-asks-no-more (answer.Event e) q = refl
-loud-asks-no-more answer.NeedMore q = absurd (true≢false q)
+loud-asks-no-more (answer.NeedMore missing) q = absurd (true≢false q)
 loud-asks-no-more answer.Finished q = refl
 loud-asks-no-more (answer.Refused r) q = refl
 
 -- and one that does not ask for more, nor is Finished, is such an answer
 is-loud : (a : Answer) → needsMore a ≡ false → (a ≡ answer.Finished → ⊥) → isQuiet a ≡ false
 is-loud (answer.Event e) m f = refl
-is-loud answer.NeedMore m f = m
+is-loud (answer.NeedMore missing) m f = m
 is-loud answer.Finished m f = absurd (f refl)
 is-loud (answer.Refused r) m f = refl
 

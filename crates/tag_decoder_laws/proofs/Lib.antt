@@ -1,3 +1,4 @@
 pub mod Settling
 pub mod AppendedBytes
+pub mod Missing
 pub mod Finishing

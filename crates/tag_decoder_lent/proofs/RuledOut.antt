@@ -23,7 +23,7 @@ amount = 0xA2 ∷ 0x81 ∷ []
 abbrev session : List ℕ
 session = 0x4E ∷ 0x01 ∷ 0xFF ∷ []
 
-needs-more : (decode benchEntries benchParts fresh amount .answer ≡ NeedMore) × (decode benchEntries benchParts fresh amount .state .settled ≡ true)
+needs-more : (decode benchEntries benchParts fresh amount .answer ≡ NeedMore 1) × (decode benchEntries benchParts fresh amount .state .settled ≡ true)
 unfolding rulesCompute
 needs-more = (refl, refl)
 

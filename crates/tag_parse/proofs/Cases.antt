@@ -11,7 +11,7 @@ use lib.ListN.{length, getD, take, drop, length-drop}
 use lib.Seq.{length-take-le, take-all}
 use Rattle.tools.specs.Bytes.{Octets, beNumber}
 use Rattle.tools.specs.Integer.{arrToU64}
-use Rattle.tools.specs.Vint.{vintLength, readVint}
+use Rattle.tools.specs.Vint.{vintLength, lessPresent, missingOfNone, readVint}
 use Rattle.tools.specs.declared.errors.ToolError.{ToolError}
 use Rattle.tools.specs.declared.integer.ArrToU64.{ArrToU64}
 use Rattle.tools.specs.declared.integer.ArrToU64.the-variants as unsigned
@@ -44,12 +44,12 @@ id-width b l = go (decLe 1 b)
     go (yes h) = let w = length-le-8 b h l in rw (id-vint b (λ e. omega arith)) (record { least = omega arith; most = w })
     go (no f) = let e : b ≡ 0 = omega arith in rw (id-zero b e) (record { least = omega arith; most = omega arith })
 
-pub id-none : (s : List ℕ) → length s ≡ 0 → readTagId s ≡ id.NeedMore
+pub id-none : (s : List ℕ) → length s ≡ 0 → readTagId s ≡ id.NeedMore missingOfNone
 unfolding readTagId
 id-none s h = simp (eq-eqb _ _ h)
 
 module _ (s : List ℕ) (some : length s ≡ 0 → ⊥) where
-  pub id-short : length s < idLength (getD s 0 0) → readTagId s ≡ id.NeedMore
+  pub id-short : length s < idLength (getD s 0 0) → readTagId s ≡ id.NeedMore (lessPresent (idLength (getD s 0 0)) s)
   unfolding readTagId
   id-short h = simp (ne-eqb _ _ some, lt-ltb _ _ h)
 
@@ -75,7 +75,7 @@ reading-id s = none-or (decLe 1 (length s))
     none-or (no f) = no-byte (omega arith)
 
 -- an ID that was read asks for no more
-pub not-more : {r : ReadTagId} {x n : ℕ} → r ≡ id.TagId x n → r ≡ id.NeedMore → ⊥
+pub not-more : {r : ReadTagId} {x n m : ℕ} → r ≡ id.TagId x n → r ≡ id.NeedMore m → ⊥
 not-more e m = let z : _≡_ {A = ℕ} 0 1 = cc in omega arith
 
 -- at most eight bytes are a number
@@ -152,7 +152,7 @@ unfolding tooLong
 long-by-kind kind v h = rw (lt-ltb _ _ h)
 
 module _ (t : List Entry) (s : List ℕ) where
-  pub header-none : readTagId s ≡ id.NeedMore → readHeader t s ≡ header.NeedMore
+  pub header-none : {m : ℕ} → readTagId s ≡ id.NeedMore m → readHeader t s ≡ header.NeedMore (m + 1)
   unfolding readHeader afterId
   header-none e = rw e
 

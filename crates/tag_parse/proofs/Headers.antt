@@ -50,7 +50,7 @@ unfolding readHeader afterId sized
 header-sound t s h byte e = at-id (readTagId s) refl e
   where
     at-size : (x n : ℕ) → readTagId s ≡ id.TagId x n → (r : ReadVint) → readVint (drop n s) ≡ r → sized x (specFor t x) n r ≡ header.Header h → IsHeader h s
-    at-size x n f vint.NeedMore g e = let z : _≡_ {A = ℕ} 0 1 = cc in absurd (omega arith)
+    at-size x n f (vint.NeedMore missing) g e = let z : _≡_ {A = ℕ} 0 1 = cc in absurd (omega arith)
     at-size x n f (vint.Refused o) g e = let z : _≡_ {A = ℕ} 0 1 = cc in absurd (omega arith)
     at-size x n f (vint.Vint v L) g e =
         let m = made x n v L (specFor t x) h e in
@@ -70,7 +70,7 @@ header-sound t s h byte e = at-id (readTagId s) refl e
         })
 
     at-id : (r : ReadTagId) → readTagId s ≡ r → afterId t s r ≡ header.Header h → IsHeader h s
-    at-id id.NeedMore f e = let z : _≡_ {A = ℕ} 0 1 = cc in absurd (omega arith)
+    at-id (id.NeedMore missing) f e = let z : _≡_ {A = ℕ} 0 1 = cc in absurd (omega arith)
     at-id (id.TagId x n) f e = at-size x n f (readVint (drop n s)) refl e
 
 -- so it has at most 16 octets
@@ -97,12 +97,12 @@ unfolding readHeader afterId sized
 header-spec t s h e = at-id (readTagId s) e
   where
     at-size : (x n : ℕ) (r : ReadVint) → sized x (specFor t x) n r ≡ header.Header h → OfTable t h
-    at-size x n vint.NeedMore e = let z : _≡_ {A = ℕ} 0 1 = cc in absurd (omega arith)
+    at-size x n (vint.NeedMore missing) e = let z : _≡_ {A = ℕ} 0 1 = cc in absurd (omega arith)
     at-size x n (vint.Refused o) e = let z : _≡_ {A = ℕ} 0 1 = cc in absurd (omega arith)
     at-size x n (vint.Vint v L) e = rw (← made x n v L (specFor t x) h e .0) (record { kind = refl; path = refl })
 
     at-id : (r : ReadTagId) → afterId t s r ≡ header.Header h → OfTable t h
-    at-id id.NeedMore e = let z : _≡_ {A = ℕ} 0 1 = cc in absurd (omega arith)
+    at-id (id.NeedMore missing) e = let z : _≡_ {A = ℕ} 0 1 = cc in absurd (omega arith)
     at-id (id.TagId x n) e = at-size x n (readVint (drop n s)) e
 
 -- ---- a header is answered exactly where it stands in front
@@ -134,7 +134,7 @@ unfolding readHeader afterId sized
 header-needs-more t s byte = (at-id (readTagId s) refl, λ p. asks (p .identifier) (p .vint) (p .part) (decLe (p .n) (length s)))
   where
     at-size : (x n : ℕ) → readTagId s ≡ id.TagId x n → (r : ReadVint) → readVint (drop n s) ≡ r → headerNeedsMore (sized x (specFor t x) n r) ≡ true → HeaderPart s
-    at-size x n f vint.NeedMore g m =
+    at-size x n f (vint.NeedMore missing) g m =
         let q = vint-needs-more (drop n s) (octets-drop n s byte) .0 (rw g) in
         record {
           x = x;
@@ -155,7 +155,7 @@ header-needs-more t s byte = (at-id (readTagId s) refl, λ p. asks (p .identifie
     at-size x n f (vint.Vint v L) g m = absurd (true≢false (sym m ∙ sized-asks-none x n v L (specFor t x)))
 
     at-id : (r : ReadTagId) → readTagId s ≡ r → headerNeedsMore (afterId t s r) ≡ true → HeaderPart s
-    at-id id.NeedMore f m =
+    at-id (id.NeedMore missing) f m =
         let q = id-needs-more s byte .0 (rw f) in
         record {
           x = q .x;
@@ -175,12 +175,12 @@ header-needs-more t s byte = (at-id (readTagId s) refl, λ p. asks (p .identifie
     at-id (id.TagId x n) f m = at-size x n f (readVint (drop n s)) refl m
 
     at-vint : (x n : ℕ) (r : ReadVint) → vintNeedsMore r ≡ true → headerNeedsMore (sized x (specFor t x) n r) ≡ true
-    at-vint x n vint.NeedMore q = refl
+    at-vint x n (vint.NeedMore missing) q = refl
     at-vint x n (vint.Refused o) q = absurd (true≢false (sym q))
     at-vint x n (vint.Vint v L) q = absurd (true≢false (sym q))
 
     at-nothing : (r : ReadTagId) → idNeedsMore r ≡ true → headerNeedsMore (afterId t s r) ≡ true
-    at-nothing id.NeedMore q = refl
+    at-nothing (id.NeedMore missing) q = refl
     at-nothing (id.TagId x l) q = absurd (true≢false (sym q))
 
     asks : {x n L v : ℕ} {i z : List ℕ} → IsId x n i → IsVint L v z → ProperPrefix s (i ++ z) → Dec (n ≤ length s) → headerNeedsMore (readHeader t s) ≡ true
@@ -217,7 +217,7 @@ unfolding readHeader afterId sized sizedBy
 header-refused t s e byte = (at-id (readTagId s) refl, λ p. answers (p .0) (p .1) (p .1 .bad))
   where
     at-size : (x n : ℕ) → readTagId s ≡ id.TagId x n → (r : ReadVint) → readVint (drop n s) ≡ r → sized x (specFor t x) n r ≡ header.Refused e → (e ≡ InvalidTagData) × BadSize t s
-    at-size x n f vint.NeedMore g q = let z : _≡_ {A = ℕ} 0 1 = cc in absurd (omega arith)
+    at-size x n f (vint.NeedMore missing) g q = let z : _≡_ {A = ℕ} 0 1 = cc in absurd (omega arith)
     at-size x n f (vint.Refused o) g q =
         let same : e ≡ InvalidTagData = cc in
         (same, record { x = x; n = n; identifier = id-sound s x n byte f; bad = inl (vint-refused (drop n s) o .0 g .1) })
@@ -227,7 +227,7 @@ header-refused t s e byte = (at-id (readTagId s) refl, λ p. answers (p .0) (p .
         (r .0, record { x = x; n = n; identifier = id-sound s x n byte f; bad = inr (record { L = L; v = v; vint = front; over = r .1 }) })
 
     at-id : (r : ReadTagId) → readTagId s ≡ r → afterId t s r ≡ header.Refused e → (e ≡ InvalidTagData) × BadSize t s
-    at-id id.NeedMore f q = let z : _≡_ {A = ℕ} 0 1 = cc in absurd (omega arith)
+    at-id (id.NeedMore missing) f q = let z : _≡_ {A = ℕ} 0 1 = cc in absurd (omega arith)
     at-id (id.TagId x n) f q = at-size x n f (readVint (drop n s)) refl q
 
     answers : e ≡ InvalidTagData → (b : BadSize t s) → FirstByte0 (drop (b .n) s) ⊎ TooLongSize (dataTypeOf t (b .x)) (drop (b .n) s) → readHeader t s ≡ header.Refused e
@@ -243,10 +243,10 @@ header-local t s u byte some = at-id (readTagId s) refl
     same x n f k = rw (id-local s u f, f, drop-append-le n s u (id-front s byte f .whole), read-local (drop n s) u k)
 
     at-size : (x n : ℕ) → readTagId s ≡ id.TagId x n → (r : ReadVint) → readVint (drop n s) ≡ r → readHeader t (s ++ u) ≡ readHeader t s
-    at-size x n f vint.NeedMore g = absurd (true≢false (rw (f, g) at some))
+    at-size x n f (vint.NeedMore missing) g = absurd (true≢false (rw (f, g) at some))
     at-size x n f (vint.Refused o) g = same x n f (rw g)
     at-size x n f (vint.Vint v L) g = same x n f (rw g)
 
     at-id : (r : ReadTagId) → readTagId s ≡ r → readHeader t (s ++ u) ≡ readHeader t s
-    at-id id.NeedMore f = absurd (true≢false (rw f at some))
+    at-id (id.NeedMore missing) f = absurd (true≢false (rw f at some))
     at-id (id.TagId x n) f = at-size x n f (readVint (drop n s)) refl

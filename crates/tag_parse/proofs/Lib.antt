@@ -5,3 +5,4 @@ pub mod Headers
 pub mod NumberSizes
 pub mod Unique
 pub mod Computing
+pub mod Missing

@@ -52,12 +52,12 @@ unfolding readHeader afterId sized
 number-size t s h n e k known = at-id (readTagId s) e
   where
     at-size : (x m : ℕ) (r : ReadVint) → sized x (specFor t x) m r ≡ header.Header h → n ≤ 8
-    at-size x m vint.NeedMore e = let z : _≡_ {A = ℕ} 0 1 = cc in absurd (omega arith)
+    at-size x m (vint.NeedMore missing) e = let z : _≡_ {A = ℕ} 0 1 = cc in absurd (omega arith)
     at-size x m (vint.Refused o) e = let z : _≡_ {A = ℕ} 0 1 = cc in absurd (omega arith)
     at-size x m (vint.Vint v L) e =
         let p = made x m v L (specFor t x) h e in
         not-too-long (specFor t x .kind) v L n (rw (← p .0) at k) (p .1) (rw (← p .0) at known)
 
     at-id : (r : ReadTagId) → afterId t s r ≡ header.Header h → n ≤ 8
-    at-id id.NeedMore e = let z : _≡_ {A = ℕ} 0 1 = cc in absurd (omega arith)
+    at-id (id.NeedMore missing) e = let z : _≡_ {A = ℕ} 0 1 = cc in absurd (omega arith)
     at-id (id.TagId x m) e = at-size x m (readVint (drop m s)) e

@@ -8,7 +8,7 @@ use lib.Dec.{ltb, eqb}
 use lib.ListN.{length, getD, take, drop}
 use Rattle.basics.specs.Lists.{ProperPrefix}
 use Rattle.tools.specs.Bytes.{beNumber}
-use Rattle.tools.specs.Vint.{IsVint, Front, FirstByte0, vintLength, allOnes, readVint}
+use Rattle.tools.specs.Vint.{IsVint, Front, FirstByte0, vintLength, allOnes, lessPresent, missingOfNone, readVint}
 use Rattle.tools.specs.declared.vint.ReadVint.{ReadVint}
 use Rattle.tools.specs.declared.vint.ReadVint.the-variants as vint
 use Rattle.table.specs.Table.{Entry, specFor, dataTypeOf, rangeOf}
@@ -30,18 +30,23 @@ use Rattle.tag_parse.specs.declared.types.ReadHeader.the-variants as hea
 abbrev pub idLength : ℕ → ℕ
 idLength first = cond (eqb first 0) 1 (vintLength first)
 
--- an ID of L bytes at the front of s, "marker kept"; it needs more where s is shorter
+-- an ID of L bytes at the front of s, "marker kept"; where s is shorter it needs more, as many as a vint of L bytes
 abbrev pub idAt : ℕ → List ℕ → ReadTagId
-idAt L s = cond (ltb (length s) L) id.NeedMore (id.TagId (beNumber (take L s)) L)
+idAt L s = cond (ltb (length s) L) (id.NeedMore (lessPresent L s)) (id.TagId (beNumber (take L s)) L)
 
 -- the ID at the front of s
 unfoldable pub readTagId : List ℕ → ReadTagId
-readTagId s = cond (eqb (length s) 0) id.NeedMore (idAt (idLength (getD s 0 0)) s)
+readTagId s = cond (eqb (length s) 0) (id.NeedMore missingOfNone) (idAt (idLength (getD s 0 0)) s)
 
 -- the answer asks for more bytes
 abbrev pub idNeedsMore : ReadTagId → Bool
-idNeedsMore id.NeedMore = true
+idNeedsMore (id.NeedMore missing) = true
 idNeedsMore (id.TagId x n) = false
+
+-- how many bytes it asks for, at least: 0 where it asks for none
+abbrev pub idMissing : ReadTagId → ℕ
+idMissing (id.NeedMore missing) = missing
+idMissing (id.TagId x n) = 0
 
 -- ---- the size
 
@@ -75,13 +80,14 @@ sizedBy x spec n v L = cond (tooLong (spec .kind) v) (header.Refused InvalidTagD
 
 -- what the size vint makes of it: "Size byte 0" is refusal 14
 unfoldable pub sized : ℕ → Spec → ℕ → ReadVint → ReadHeader
-sized x spec n vint.NeedMore = header.NeedMore
+sized x spec n (vint.NeedMore missing) = header.NeedMore missing
 sized x spec n (vint.Refused e) = header.Refused InvalidTagData
 sized x spec n (vint.Vint v L) = sizedBy x spec n v L
 
--- the size vint stands right after the ID
+-- the size vint stands right after the ID; document 02, CR 1: "The header adds 1 for the size while the ID is
+-- incomplete"
 unfoldable pub afterId : List Entry → List ℕ → ReadTagId → ReadHeader
-afterId t s id.NeedMore = header.NeedMore
+afterId t s (id.NeedMore missing) = header.NeedMore (missing + 1)
 afterId t s (id.TagId x n) = sized x (specFor t x) n (readVint (drop n s))
 
 -- the header at the front of s
@@ -90,9 +96,15 @@ readHeader t s = afterId t s (readTagId s)
 
 -- the answer asks for more bytes
 abbrev pub headerNeedsMore : ReadHeader → Bool
-headerNeedsMore header.NeedMore = true
+headerNeedsMore (header.NeedMore missing) = true
 headerNeedsMore (header.Refused e) = false
 headerNeedsMore (header.Header h) = false
+
+-- how many bytes it asks for, at least: 0 where it asks for none
+abbrev pub headerMissing : ReadHeader → ℕ
+headerMissing (header.NeedMore missing) = missing
+headerMissing (header.Refused e) = 0
+headerMissing (header.Header h) = 0
 
 -- ---- what is accepted, as relations on octets
 

@@ -33,16 +33,18 @@ pub fn read_tag_id(input: &[u8]) -> ReadTagId
     ensures { λ r. ⌜ r ≡ readTagId (now (input .entry)) ⌝ }
 {
     if input.len() == 0 {
-        return ReadTagId::NeedMore;
+        return ReadTagId::NeedMore { missing: 1 };
     }
     let length = id_length(input[0]);
     if input.len() < length {
-        return ReadTagId::NeedMore;
+        return ReadTagId::NeedMore {
+            missing: length - input.len(),
+        };
     }
     match arr_to_u64(&input[..length]) {
         ArrToU64::Value(id) => ReadTagId::TagId { id, length },
         // an ID has at most 8 bytes: this does not happen
-        ArrToU64::Refused(_) => ReadTagId::NeedMore,
+        ArrToU64::Refused(_) => ReadTagId::NeedMore { missing: 0 },
     }
 }
 
@@ -108,15 +110,18 @@ fn with_size(id: u64, spec: Spec, id_len: usize, size: u64, size_len: usize) -> 
 pub fn read_header(entries: &[u64], parts: &[u64], input: &[u8]) -> ReadHeader
     ensures { λ r. ⌜ r ≡ readHeader (tableOf (now (entries .entry)) (now (parts .entry))) (now (input .entry)) ⌝ }
 {
-    let ReadTagId::TagId { id, length: id_len } = read_tag_id(input) else {
-        return ReadHeader::NeedMore;
-    };
-    match read_vint(&input[id_len..]) {
-        ReadVint::NeedMore => ReadHeader::NeedMore,
-        ReadVint::Refused(_) => ReadHeader::Refused(ParseError::InvalidTagData),
-        ReadVint::Vint { value, length } => {
-            let spec = look_up(entries, parts, id);
-            with_size(id, spec, id_len, value, length)
-        }
+    match read_tag_id(input) {
+        // the size has a byte at least
+        ReadTagId::NeedMore { missing } => ReadHeader::NeedMore {
+            missing: missing + 1,
+        },
+        ReadTagId::TagId { id, length: id_len } => match read_vint(&input[id_len..]) {
+            ReadVint::NeedMore { missing } => ReadHeader::NeedMore { missing },
+            ReadVint::Refused(_) => ReadHeader::Refused(ParseError::InvalidTagData),
+            ReadVint::Vint { value, length } => {
+                let spec = look_up(entries, parts, id);
+                with_size(id, spec, id_len, value, length)
+            }
+        },
     }
 }

@@ -25,9 +25,9 @@ pub fn parse_number(e: ParseError) -> u64
     }
 }
 
-// What stands at the front of some bytes, read as an ID.
+// What stands at the front of some bytes, read as an ID: an ID whole, or how many bytes of it are missing.
 pub enum ReadTagId {
-    NeedMore,
+    NeedMore { missing: usize },
     TagId { id: u64, length: usize },
 }
 
@@ -46,9 +46,9 @@ pub struct TagHeader {
     pub len: usize,
 }
 
-// What stands at the front of some bytes, read as a header.
+// What stands at the front of some bytes, read as a header; where more is needed, how many bytes are missing at least.
 pub enum ReadHeader {
-    NeedMore,
+    NeedMore { missing: usize },
     Refused(ParseError),
     Header(TagHeader),
 }

@@ -127,7 +127,13 @@ octets-take (suc n) [] byte i = omega arith
 octets-take (suc n) (x ∷ s) byte zero = byte 0
 octets-take (suc n) (x ∷ s) byte (suc i) = octets-take n s (λ j. byte (suc j)) i
 
--- octets with zeros behind them are octets
+-- octets with octets behind them are octets
+pub octets-append : (s t : List ℕ) → Octets s → Octets t → Octets (s ++ t)
+octets-append [] t byte more i = more i
+octets-append (x ∷ s) t byte more zero = byte 0
+octets-append (x ∷ s) t byte more (suc i) = octets-append s t (λ j. byte (suc j)) more i
+
+-- and so with zeros behind them
 pub octets-zeros : (s : List ℕ) (k : ℕ) → Octets s → Octets (s ++ replicate k 0)
 octets-zeros [] zero byte i = omega arith
 octets-zeros [] (suc k) byte zero = omega arith

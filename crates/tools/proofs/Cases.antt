@@ -9,7 +9,7 @@ use borrow.Author.Tests.{eq-eqb, ne-eqb, lt-ltb, le-ltb, le-leb, lt-leb}
 use lib.IntN.{ℤ}
 use lib.ListN.{length, getD, take, drop}
 use Rattle.tools.specs.Answers.{Gives}
-use Rattle.tools.specs.Vint.{vintLength, vintValue, readVint, vintNeedsMore, vintBytes, vintWidth, vintLimit, asVint, asVintWithLength}
+use Rattle.tools.specs.Vint.{vintLength, vintValue, lessPresent, missingOfNone, readVint, vintNeedsMore, vintBytes, vintWidth, vintLimit, asVint, asVintWithLength}
 use Rattle.tools.specs.SignedVint.{signedWidth, signedVintLimit, asSignedVint, asSignedVintWithLength}
 use Rattle.tools.specs.Integer.{absoluteValue}
 use Rattle.tools.specs.Twos.{bitsOf}
@@ -22,7 +22,7 @@ gives {A} e = record { answer = ap (λ (q : A × List ℕ). q .0) (sym e); bytes
 
 -- ---- readVint
 
-pub read-none : (s : List ℕ) → length s ≡ 0 → readVint s ≡ NeedMore
+pub read-none : (s : List ℕ) → length s ≡ 0 → readVint s ≡ NeedMore missingOfNone
 unfolding readVint
 read-none s h = simp (eq-eqb _ _ h)
 
@@ -31,7 +31,8 @@ module _ (s : List ℕ) (some : length s ≡ 0 → ⊥) where
   unfolding readVint
   read-zero h = simp (ne-eqb _ _ some, eq-eqb _ _ h)
 
-  pub read-short : (getD s 0 0 ≡ 0 → ⊥) → length s < vintLength (getD s 0 0) → readVint s ≡ NeedMore
+  pub read-short : (getD s 0 0 ≡ 0 → ⊥) → length s < vintLength (getD s 0 0)
+      → readVint s ≡ NeedMore (lessPresent (vintLength (getD s 0 0)) s)
   unfolding readVint
   read-short n h = simp (ne-eqb _ _ some, ne-eqb _ _ n, lt-ltb _ _ h)
 

@@ -8,6 +8,7 @@ pub mod Rfc8794
 pub mod Complement
 pub mod Widening
 pub mod Signed
+pub mod Missing
 pub mod Floats
 pub mod IsVint
 pub mod IdForms

@@ -68,7 +68,7 @@ unfolding takenSigned
 signed-needs-more s = go (readVint s)
   where
     go : (r : ReadVint) → signedVintNeedsMore (takenSigned r) ≡ vintNeedsMore r
-    go read.NeedMore = refl
+    go (read.NeedMore missing) = refl
     go (read.Refused e) = refl
     go (read.Vint v L) = refl
 

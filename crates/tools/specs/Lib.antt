@@ -2,6 +2,7 @@ pub mod Refusals
 pub mod Answers
 pub mod Bytes
 pub mod Vint
+pub mod Missing
 pub mod Page
 pub mod ElementId
 pub mod Twos

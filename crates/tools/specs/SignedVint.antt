@@ -16,9 +16,9 @@ use Rattle.tools.specs.declared.vint.Written.the-variants as written
 use Rattle.tools.specs.declared.signed_vint.ReadSignedVint.{ReadSignedVint}
 use Rattle.tools.specs.declared.signed_vint.ReadSignedVint.the-variants as signed
 
--- a vint's value taken as two's complement in its 7 L bits
+-- a vint's value taken as two's complement in its 7 L bits; where bytes are missing, as many
 unfoldable pub takenSigned : ReadVint → ReadSignedVint
-takenSigned read.NeedMore = signed.NeedMore
+takenSigned (read.NeedMore missing) = signed.NeedMore missing
 takenSigned (read.Refused e) = signed.Refused e
 takenSigned (read.Vint v L) = signed.Vint (signedOf (7 * L) v) L
 
@@ -28,9 +28,15 @@ readSignedVint s = takenSigned (readVint s)
 
 -- the answer asks for more bytes
 abbrev pub signedVintNeedsMore : ReadSignedVint → Bool
-signedVintNeedsMore signed.NeedMore = true
+signedVintNeedsMore (signed.NeedMore missing) = true
 signedVintNeedsMore (signed.Refused e) = false
 signedVintNeedsMore (signed.Vint z L) = false
+
+-- how many bytes it asks for, at least: 0 where it asks for none
+abbrev pub signedVintMissing : ReadSignedVint → ℕ
+signedVintMissing (signed.NeedMore missing) = missing
+signedVintMissing (signed.Refused e) = 0
+signedVintMissing (signed.Vint z L) = 0
 
 -- the least L of 1 to 7 whose 7 L bits hold the number, else 8: `mag` is n of n, and n of -1 - n
 abbrev pub signedWidth : ℤ → ℕ

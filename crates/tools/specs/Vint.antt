@@ -51,22 +51,36 @@ vintLength first = leadingZeros 8 first + 1
 abbrev pub vintValue : ℕ → List ℕ → ℕ
 vintValue L octets = beNumber octets - 2 ^ (7 * L)
 
+-- document 02, CR 1: "its length less the bytes present"
+abbrev pub lessPresent : ℕ → List ℕ → ℕ
+lessPresent L s = L - length s
+
+-- document 02, CR 1: "1 if there are none"
+abbrev pub missingOfNone : ℕ
+missingOfNone = 1
+
 -- a vint of L bytes at the front of s, which needs more where s is shorter
 abbrev pub vintAt : ℕ → List ℕ → ReadVint
-vintAt L s = cond (ltb (length s) L) read.NeedMore (read.Vint (vintValue L (take L s)) L)
+vintAt L s = cond (ltb (length s) L) (read.NeedMore (lessPresent L s)) (read.Vint (vintValue L (take L s)) L)
 
 -- "no byte, or fewer than its length: need more. First byte 0: refusal 1"
 unfoldable pub readVint : List ℕ → ReadVint
 readVint s =
-    cond (eqb (length s) 0) read.NeedMore
+    cond (eqb (length s) 0) (read.NeedMore missingOfNone)
     (cond (eqb (getD s 0 0) 0) (read.Refused ReadVintOverflow)
     (vintAt (vintLength (getD s 0 0)) s))
 
 -- the answer asks for more bytes
 abbrev pub vintNeedsMore : ReadVint → Bool
-vintNeedsMore read.NeedMore = true
+vintNeedsMore (read.NeedMore missing) = true
 vintNeedsMore (read.Refused e) = false
 vintNeedsMore (read.Vint v L) = false
+
+-- how many bytes it asks for, at least: 0 where it asks for none
+abbrev pub vintMissing : ReadVint → ℕ
+vintMissing (read.NeedMore missing) = missing
+vintMissing (read.Refused e) = 0
+vintMissing (read.Vint v L) = 0
 
 -- "First byte 0"
 abbrev pub FirstByte0 : List ℕ → Type 0

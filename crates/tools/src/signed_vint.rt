@@ -19,9 +19,9 @@ use crate::vint::read_vint;
 // No number is written whose distance from 0 is this or greater.
 const SIGNED_VINT_LIMIT: u64 = 0x0080_0000_0000_0000;
 
-// What stands at the front of some bytes.
+// What stands at the front of some bytes: a signed vint whole, or how many bytes of it are missing.
 pub enum ReadSignedVint {
-    NeedMore,
+    NeedMore { missing: usize },
     Refused(ToolError),
     Vint { value: i64, length: usize },
 }
@@ -31,7 +31,7 @@ pub fn read_signed_vint(buffer: &[u8]) -> ReadSignedVint
     ensures { λ r. ⌜ r ≡ readSignedVint (now (buffer .entry)) ⌝ }
 {
     match read_vint(buffer) {
-        ReadVint::NeedMore => ReadSignedVint::NeedMore,
+        ReadVint::NeedMore { missing } => ReadSignedVint::NeedMore { missing },
         ReadVint::Refused(e) => ReadSignedVint::Refused(e),
         ReadVint::Vint { value, length } => ReadSignedVint::Vint {
             value: signed_of(value, 7 * length),

@@ -13,9 +13,9 @@ use crate::page::length_on_page;
 // No vint holds this value or a greater one: 8 bytes have 56 bits of data.
 const VINT_LIMIT: u64 = 0x0100_0000_0000_0000;
 
-// What stands at the front of some bytes.
+// What stands at the front of some bytes: a vint whole, or how many bytes of it are missing.
 pub enum ReadVint {
-    NeedMore,
+    NeedMore { missing: usize },
     Refused(ToolError),
     Vint { value: u64, length: usize },
 }
@@ -31,7 +31,7 @@ pub fn read_vint(buffer: &[u8]) -> ReadVint
     ensures { λ r. ⌜ r ≡ readVint (now (buffer .entry)) ⌝ }
 {
     if buffer.len() == 0 {
-        return ReadVint::NeedMore;
+        return ReadVint::NeedMore { missing: 1 };
     }
     let first = buffer[0];
     if first == 0 {
@@ -39,7 +39,9 @@ pub fn read_vint(buffer: &[u8]) -> ReadVint
     }
     let length = length_on_page(first);
     if buffer.len() < length {
-        return ReadVint::NeedMore;
+        return ReadVint::NeedMore {
+            missing: length - buffer.len(),
+        };
     }
     ReadVint::Vint {
         value: be_number(buffer, length) - pow2(7 * length),

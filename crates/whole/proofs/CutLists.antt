@@ -72,7 +72,7 @@ read-on s cs left r reading c = record {
 
 finish-is : (a : Answer) → isFinish a ≡ true → a ≡ answer.Finished
 finish-is (answer.Event e) q = absurd (false≢true q)
-finish-is answer.NeedMore q = absurd (false≢true q)
+finish-is (answer.NeedMore missing) q = absurd (false≢true q)
 finish-is answer.Finished q = refl
 finish-is (answer.Refused r) q = absurd (false≢true q)
 

@@ -147,7 +147,7 @@ module _ (es ps : List ℕ) (s : List ℕ) where
 
   root-asks : (a : Answer) (d : TagDecoder) → isRootAt0 a d ≡ true → needsMore a ≡ false
   root-asks (answer.Event e) d i = refl
-  root-asks answer.NeedMore d i = absurd (false≢true i)
+  root-asks (answer.NeedMore missing) d i = absurd (false≢true i)
   root-asks answer.Finished d i = refl
   root-asks (answer.Refused r) d i = refl
 
@@ -163,13 +163,13 @@ root-is-record : (a : Answer) (d : TagDecoder) → isRootAt0 a d ≡ true → is
 root-is-record (answer.Event (event.Start x p)) d i = both (eqb p 0) (eqb (d .«open_count») 1) i .right
 root-is-record (answer.Event (event.End e)) d i = absurd (false≢true i)
 root-is-record (answer.Event (event.Data x p v)) d i = absurd (false≢true i)
-root-is-record answer.NeedMore d i = absurd (false≢true i)
+root-is-record (answer.NeedMore missing) d i = absurd (false≢true i)
 root-is-record answer.Finished d i = absurd (false≢true i)
 root-is-record (answer.Refused r) d i = absurd (false≢true i)
 
 root-is-event : (a : Answer) (d : TagDecoder) → isRootAt0 a d ≡ true → isEvent a ≡ true
 root-is-event (answer.Event e) d i = refl
-root-is-event answer.NeedMore d i = absurd (false≢true i)
+root-is-event (answer.NeedMore missing) d i = absurd (false≢true i)
 root-is-event answer.Finished d i = absurd (false≢true i)
 root-is-event (answer.Refused r) d i = absurd (false≢true i)
 
@@ -183,7 +183,7 @@ root-is-start : (a : Answer) (d : TagDecoder) → isRootAt0 a d ≡ true → IsS
 root-is-start (answer.Event (event.Start y q)) d i = record { x = y; p = q; is = refl }
 root-is-start (answer.Event (event.End e)) d i = absurd (false≢true i)
 root-is-start (answer.Event (event.Data x p v)) d i = absurd (false≢true i)
-root-is-start answer.NeedMore d i = absurd (false≢true i)
+root-is-start (answer.NeedMore missing) d i = absurd (false≢true i)
 root-is-start answer.Finished d i = absurd (false≢true i)
 root-is-start (answer.Refused r) d i = absurd (false≢true i)
 

@@ -76,7 +76,7 @@ module _ (es ps : List ℕ) where
       by (answer.Event (event.Start x p)) b more = more (k + 1) (omega (arith, b .0))
       by (answer.Event (event.End x)) b more = let h : 0 < k = omega arith in rw (lt-ltb 0 k h) (more (k - 1) (omega arith))
       by (answer.Event (event.Data x p v)) b more = more k (omega arith)
-      by answer.NeedMore b more = refl
+      by (answer.NeedMore missing) b more = refl
       by answer.Finished b more = refl
       by (answer.Refused x) b more = refl
 
@@ -99,7 +99,7 @@ module _ (es ps : List ℕ) where
           starts-all n (0 + 1) (r .state) (drop (r .taken) s) (octets-drop (r .taken) s byte) (start-settles es ps checked fresh s byte q) (omega (arith, one, b .1 .1))
       by (answer.Event (event.End x)) q b g = absurd (false≢true g)
       by (answer.Event (event.Data x p v)) q b g = absurd (false≢true g)
-      by answer.NeedMore q b g = absurd (false≢true g)
+      by (answer.NeedMore missing) q b g = absurd (false≢true g)
       by answer.Finished q b g = absurd (false≢true g)
       by (answer.Refused x) q b g = absurd (false≢true g)
 
@@ -116,7 +116,7 @@ module _ (es ps : List ℕ) where
       by (answer.Event (event.Start x p)) b g = omega (arith, b .1 .0, eof-facts es ps fresh s byte .within)
       by (answer.Event (event.End x)) b g = absurd (false≢true g)
       by (answer.Event (event.Data x p v)) b g = absurd (false≢true g)
-      by answer.NeedMore b g = absurd (false≢true g)
+      by (answer.NeedMore missing) b g = absurd (false≢true g)
       by answer.Finished b g = absurd (false≢true g)
       by (answer.Refused x) b g = absurd (false≢true g)
 
@@ -124,7 +124,7 @@ module _ (es ps : List ℕ) where
 
 event-no-finish : (a : Answer) → isEvent a ≡ true → isFinish a ≡ true → ⊥
 event-no-finish (answer.Event e) i f = false≢true f
-event-no-finish answer.NeedMore i f = false≢true f
+event-no-finish (answer.NeedMore missing) i f = false≢true f
 event-no-finish answer.Finished i f = false≢true i
 event-no-finish (answer.Refused r) i f = false≢true f
 
@@ -158,7 +158,7 @@ module _ (es ps : List ℕ) where
           let k = finish-later (answeredBy r) rest (ap isEvent q) (rw on at f) in
           let facts = eof-facts es ps d s byte in
           rw on (k .1 ∙ more (k .0) ∙ omega (arith, facts .moves, facts .within, length-drop (r .taken) s))
-      by answer.NeedMore q more = absurd (false≢true (ended q refl))
+      by (answer.NeedMore missing) q more = absurd (false≢true (ended q refl))
       by answer.Finished q more =
           let facts = eof-facts es ps d s byte in
           rw (read-last es ps n d s (ap isEvent q)) (omega (arith, facts .moves, facts .within, finish-no-byte es ps d s byte q))
@@ -186,7 +186,7 @@ module _ (es ps : List ℕ) where
       by (answer.Event (event.Start x p)) b few = omega (arith, few, b .1 .0, at-most-one (eqb (r .state .«open_count») 2), eof-facts es ps d s byte .within)
       by (answer.Event (event.End x)) b few = omega (arith, few)
       by (answer.Event (event.Data x p v)) b few = omega (arith, few)
-      by answer.NeedMore b few = omega arith
+      by (answer.NeedMore missing) b few = omega arith
       by answer.Finished b few = omega arith
       by (answer.Refused x) b few = omega arith
 
@@ -248,13 +248,13 @@ module _ (size : ℕ) (some : 0 < size) where
 
   not-asks : (a : Answer) → not (needsMore a) ≡ true → needsMore a ≡ false
   not-asks (answer.Event e) q = refl
-  not-asks answer.NeedMore q = absurd (false≢true q)
+  not-asks (answer.NeedMore missing) q = absurd (false≢true q)
   not-asks answer.Finished q = refl
   not-asks (answer.Refused r) q = refl
 
   no-event : (a : Answer) → ((e : Event) → a ≡ answer.Event e → ⊥) → isEvent a ≡ false
   no-event (answer.Event e) n = absurd (n e refl)
-  no-event answer.NeedMore n = refl
+  no-event (answer.NeedMore missing) n = refl
   no-event answer.Finished n = refl
   no-event (answer.Refused r) n = refl
 
@@ -286,7 +286,7 @@ module _ (size : ℕ) (some : 0 < size) where
 
   finish-asks-none : (a : Answer) → isFinish a ≡ true → (not (needsMore a) && true) ≡ true
   finish-asks-none (answer.Event e) f = absurd (false≢true f)
-  finish-asks-none answer.NeedMore f = absurd (false≢true f)
+  finish-asks-none (answer.NeedMore missing) f = absurd (false≢true f)
   finish-asks-none answer.Finished f = refl
   finish-asks-none (answer.Refused r) f = absurd (false≢true f)
 

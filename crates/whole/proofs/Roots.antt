@@ -395,7 +395,7 @@ module _ (es ps : List ℕ) where
           let facts = eof-facts es ps d s byte in
           let done = more (stage-leaves es ps d s byte st f g (ap isEvent q) (w .sized-first) (k .0)) (w .sized-rest) (k .1) (later .0) in
           omega (arith, done, facts .moves, facts .within, length-drop (R .taken) s)
-      by answer.NeedMore q more = absurd (false≢true (ended q refl))
+      by (answer.NeedMore missing) q more = absurd (false≢true (ended q refl))
       by answer.Finished q more = omega (arith, stage-finish es ps d s byte st f g q, finish-no-byte es ps d s byte q)
       by (answer.Refused x) q more = absurd (false≢true (ended q refl))
 
@@ -430,6 +430,6 @@ module _ (es ps : List ℕ) where
           let facts = eof-facts es ps d s byte in
           let done = from (root-leaves es ps d s byte st f g (ap isEvent q) (w .sized-first)) (λ o. more o (w .sized-rest) (later .0)) in
           omega (arith, done, facts .moves, facts .within, length-drop (R .taken) s)
-      by answer.NeedMore q more = absurd (false≢true (ended q refl))
+      by (answer.NeedMore missing) q more = absurd (false≢true (ended q refl))
       by answer.Finished q more = absurd (open-no-finish es ps d s byte st f g (eof-exits es ps d s) q)
       by (answer.Refused x) q more = absurd (false≢true (ended q refl))

@@ -51,7 +51,7 @@ abbrev pub Balance : Answer → ℕ → ℕ → ℕ → ℕ → Type 0
 Balance (answer.Event (event.Start x p)) n m t w = (m ≡ n + 1) × ((0 < t) × (w ≡ 0))
 Balance (answer.Event (event.End e)) n m t w = m + 1 ≡ n
 Balance (answer.Event (event.Data x p v)) n m t w = m ≡ n
-Balance answer.NeedMore n m t w = Unit {0}
+Balance (answer.NeedMore missing) n m t w = Unit {0}
 Balance answer.Finished n m t w = Unit {0}
 Balance (answer.Refused r) n m t w = Unit {0}
 
@@ -195,7 +195,7 @@ module _ (es ps : List ℕ) (checked : checkTable es ps ≡ Passed) (d : TagDeco
   isStart (answer.Event (event.Start x p)) = true
   isStart (answer.Event (event.End e)) = false
   isStart (answer.Event (event.Data x p v)) = false
-  isStart answer.NeedMore = false
+  isStart (answer.NeedMore missing) = false
   isStart answer.Finished = false
   isStart (answer.Refused r) = false
 

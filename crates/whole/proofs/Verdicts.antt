@@ -47,7 +47,7 @@ begun-stays : (c : Seen) (a : Answer) (d : TagDecoder) → c .begun ≡ true →
 begun-stays c (answer.Event (event.Start x p)) d b = refl
 begun-stays c (answer.Event (event.End e)) d b = refl
 begun-stays c (answer.Event (event.Data x p v)) d b = refl
-begun-stays c answer.NeedMore d b = b
+begun-stays c (answer.NeedMore missing) d b = b
 begun-stays c answer.Finished d b = b
 begun-stays c (answer.Refused r) d b = b
 
@@ -55,7 +55,7 @@ front-stays : (c : Seen) (a : Answer) (d : TagDecoder) → c .begun ≡ true →
 front-stays c (answer.Event (event.Start x p)) d b = rw b
 front-stays c (answer.Event (event.End e)) d b = rw b
 front-stays c (answer.Event (event.Data x p v)) d b = rw b
-front-stays c answer.NeedMore d b = refl
+front-stays c (answer.NeedMore missing) d b = refl
 front-stays c answer.Finished d b = refl
 front-stays c (answer.Refused r) d b = refl
 
@@ -71,7 +71,7 @@ sized-one : (c : Seen) (a : Answer) (d : TagDecoder) → seenAfter c a d .sized 
 sized-one c (answer.Event (event.Start x p)) d = refl
 sized-one c (answer.Event (event.End e)) d = sym (and-true (c .sized))
 sized-one c (answer.Event (event.Data x p v)) d = sym (and-true (c .sized))
-sized-one c answer.NeedMore d = sym (and-true (c .sized))
+sized-one c (answer.NeedMore missing) d = sym (and-true (c .sized))
 sized-one c answer.Finished d = sym (and-true (c .sized))
 sized-one c (answer.Refused r) d = sym (and-true (c .sized))
 
@@ -82,7 +82,7 @@ records-one : (c : Seen) (a : Answer) (d : TagDecoder) (x : ℕ) → c .records 
 records-one c (answer.Event (event.Start y p)) d x e = counted-one (eqb (d .«open_count») 1) (c .records) x e
 records-one c (answer.Event (event.End y)) d x e = more-none (c .records) x e
 records-one c (answer.Event (event.Data y p v)) d x e = counted-one (eqb (d .«open_count») 0) (c .records) x e
-records-one c answer.NeedMore d x e = more-none (c .records) x e
+records-one c (answer.NeedMore missing) d x e = more-none (c .records) x e
 records-one c answer.Finished d x e = more-none (c .records) x e
 records-one c (answer.Refused r) d x e = more-none (c .records) x e
 
@@ -90,7 +90,7 @@ feeds-one : (c : Seen) (a : Answer) (d : TagDecoder) (x : ℕ) → c .feeds ≡ 
 feeds-one c (answer.Event (event.Start y p)) d x e = counted-one (eqb (d .«open_count») 2) (c .feeds) x e
 feeds-one c (answer.Event (event.End y)) d x e = more-none (c .feeds) x e
 feeds-one c (answer.Event (event.Data y p v)) d x e = more-none (c .feeds) x e
-feeds-one c answer.NeedMore d x e = more-none (c .feeds) x e
+feeds-one c (answer.NeedMore missing) d x e = more-none (c .feeds) x e
 feeds-one c answer.Finished d x e = more-none (c .feeds) x e
 feeds-one c (answer.Refused r) d x e = more-none (c .feeds) x e
 
@@ -168,20 +168,20 @@ front-not-whole c v e = by (c .front)
 -- any answer but the finish is not WHOLE
 last-not-whole : (c : Seen) (a : Answer) (d : TagDecoder) → isFinish a ≡ false → saysWhole (verdictAt c a d) ≡ false
 last-not-whole c (answer.Event e) d f = refl
-last-not-whole c answer.NeedMore d f = front-not-whole c (verdict.TooLarge (d .position)) refl
+last-not-whole c (answer.NeedMore missing) d f = front-not-whole c (verdict.TooLarge (d .position)) refl
 last-not-whole c answer.Finished d f = absurd (true≢false f)
 last-not-whole c (answer.Refused r) d f = front-not-whole c (refusedAs (r .error) (r .place) d) (refused-not-whole (r .error) (r .place) d)
 
 -- the finish is, where the tests say so
 finish-verdict : (c : Seen) (a : Answer) (d : TagDecoder) → c .begun ≡ true → isFinish a ≡ true → verdictAt c a d ≡ ifFront c (finishedAs c (d .position))
 finish-verdict c (answer.Event e) d b f = absurd (false≢true f)
-finish-verdict c answer.NeedMore d b f = absurd (false≢true f)
+finish-verdict c (answer.NeedMore missing) d b f = absurd (false≢true f)
 finish-verdict c answer.Finished d b f = rw b
 finish-verdict c (answer.Refused r) d b f = absurd (false≢true f)
 
 finish-keeps : (c : Seen) (a : Answer) (d : TagDecoder) → isFinish a ≡ true → seenAfter c a d ≡ c
 finish-keeps c (answer.Event e) d f = absurd (false≢true f)
-finish-keeps c answer.NeedMore d f = absurd (false≢true f)
+finish-keeps c (answer.NeedMore missing) d f = absurd (false≢true f)
 finish-keeps c answer.Finished d f = refl
 finish-keeps c (answer.Refused r) d f = absurd (false≢true f)
 
@@ -214,7 +214,7 @@ event-begins : (c : Seen) (a : Answer) (d : TagDecoder) → isEvent a ≡ true �
 event-begins c (answer.Event (event.Start x p)) d e = refl
 event-begins c (answer.Event (event.End x)) d e = refl
 event-begins c (answer.Event (event.Data x p v)) d e = refl
-event-begins c answer.NeedMore d e = absurd (false≢true e)
+event-begins c (answer.NeedMore missing) d e = absurd (false≢true e)
 event-begins c answer.Finished d e = absurd (false≢true e)
 event-begins c (answer.Refused r) d e = absurd (false≢true e)
 
@@ -222,7 +222,7 @@ first-front : (a : Answer) (d : TagDecoder) → isEvent a ≡ true → seenAfter
 first-front (answer.Event (event.Start x p)) d e = refl
 first-front (answer.Event (event.End x)) d e = refl
 first-front (answer.Event (event.Data x p v)) d e = refl
-first-front answer.NeedMore d e = absurd (false≢true e)
+first-front (answer.NeedMore missing) d e = absurd (false≢true e)
 first-front answer.Finished d e = absurd (false≢true e)
 first-front (answer.Refused r) d e = absurd (false≢true e)
 
@@ -309,6 +309,6 @@ alone-not-whole a = by (a .answer) refl
   where
     by : (x : Answer) → a .answer ≡ x → saysWhole (verdictAt atStart x (a .after)) ≡ false
     by (answer.Event e) q = refl
-    by answer.NeedMore q = refl
+    by (answer.NeedMore missing) q = refl
     by answer.Finished q = refl
     by (answer.Refused r) q = refused-not-whole (r .error) (r .place) (a .after)

@@ -91,7 +91,7 @@ front-event a f = by (a .answer) f
     by (answer.Event (event.Start x p)) g = refl
     by (answer.Event (event.End e)) g = absurd (false≢true g)
     by (answer.Event (event.Data x p v)) g = absurd (false≢true g)
-    by answer.NeedMore g = absurd (false≢true g)
+    by (answer.NeedMore missing) g = absurd (false≢true g)
     by answer.Finished g = absurd (false≢true g)
     by (answer.Refused r) g = absurd (false≢true g)
 

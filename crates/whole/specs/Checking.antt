@@ -73,7 +73,7 @@ abbrev pub seenAfter : Seen → Answer → TagDecoder → Seen
 seenAfter c (answer.Event (event.Start x p)) d = startSeen c x p (d .«open_count») (topIsSized d)
 seenAfter c (answer.Event (event.End e)) d = otherSeen c false
 seenAfter c (answer.Event (event.Data x p v)) d = otherSeen c (eqb (d .«open_count») 0)
-seenAfter c answer.NeedMore d = c
+seenAfter c (answer.NeedMore missing) d = c
 seenAfter c answer.Finished d = c
 seenAfter c (answer.Refused r) d = c
 
@@ -124,7 +124,7 @@ ifFront c v = cond (c .front) v verdict.FrontMissing
 -- the verdict at the last answer, with the record d that it left
 abbrev pub verdictAt : Seen → Answer → TagDecoder → Verdict
 verdictAt c (answer.Event e) d = verdict.NotEnded
-verdictAt c answer.NeedMore d = ifFront c (verdict.TooLarge (d .position))
+verdictAt c (answer.NeedMore missing) d = ifFront c (verdict.TooLarge (d .position))
 verdictAt c answer.Finished d = cond (c .begun) (ifFront c (finishedAs c (d .position))) verdict.Empty
 verdictAt c (answer.Refused r) d = ifFront c (refusedAs (r .error) (r .place) d)
 

@@ -20,7 +20,7 @@ use Rattle.whole.specs.Checking.{topIsSized}
 -- whether an answer is an event
 abbrev pub isEvent : Answer → Bool
 isEvent (answer.Event e) = true
-isEvent answer.NeedMore = false
+isEvent (answer.NeedMore missing) = false
 isEvent answer.Finished = false
 isEvent (answer.Refused r) = false
 
@@ -44,7 +44,7 @@ abbrev pub isRootAt0 : Answer → TagDecoder → Bool
 isRootAt0 (answer.Event (event.Start x p)) d = eqb p 0 && eqb (d .«open_count») 1
 isRootAt0 (answer.Event (event.End e)) d = false
 isRootAt0 (answer.Event (event.Data x p v)) d = false
-isRootAt0 answer.NeedMore d = false
+isRootAt0 (answer.NeedMore missing) d = false
 isRootAt0 answer.Finished d = false
 isRootAt0 (answer.Refused r) d = false
 
@@ -58,7 +58,7 @@ abbrev pub hasSize : Answer → TagDecoder → Bool
 hasSize (answer.Event (event.Start x p)) d = topIsSized d
 hasSize (answer.Event (event.End e)) d = true
 hasSize (answer.Event (event.Data x p v)) d = true
-hasSize answer.NeedMore d = true
+hasSize (answer.NeedMore missing) d = true
 hasSize answer.Finished d = true
 hasSize (answer.Refused r) d = true
 
@@ -72,7 +72,7 @@ abbrev pub startsLeft : Answer → ℕ → ℕ
 startsLeft (answer.Event (event.Start x p)) n = n + 1
 startsLeft (answer.Event (event.End e)) n = n - 1
 startsLeft (answer.Event (event.Data x p v)) n = n
-startsLeft answer.NeedMore n = n
+startsLeft (answer.NeedMore missing) n = n
 startsLeft answer.Finished n = n
 startsLeft (answer.Refused r) n = n
 
@@ -81,7 +81,7 @@ abbrev pub hasStart : Answer → ℕ → Bool
 hasStart (answer.Event (event.Start x p)) n = true
 hasStart (answer.Event (event.End e)) n = ltb 0 n
 hasStart (answer.Event (event.Data x p v)) n = true
-hasStart answer.NeedMore n = true
+hasStart (answer.NeedMore missing) n = true
 hasStart answer.Finished n = true
 hasStart (answer.Refused r) n = true
 
@@ -93,7 +93,7 @@ allStarted n (a ∷ l) = hasStart (a .answer) n && allStarted (startsLeft (a .an
 -- whether an answer is the finish
 abbrev pub isFinish : Answer → Bool
 isFinish (answer.Event e) = false
-isFinish answer.NeedMore = false
+isFinish (answer.NeedMore missing) = false
 isFinish answer.Finished = true
 isFinish (answer.Refused r) = false
 
@@ -108,7 +108,7 @@ abbrev pub isRecord : Answer → TagDecoder → Bool
 isRecord (answer.Event (event.Start x p)) d = eqb (d .«open_count») 1
 isRecord (answer.Event (event.End e)) d = false
 isRecord (answer.Event (event.Data x p v)) d = eqb (d .«open_count») 0
-isRecord answer.NeedMore d = false
+isRecord (answer.NeedMore missing) d = false
 isRecord answer.Finished d = false
 isRecord (answer.Refused r) d = false
 
@@ -122,7 +122,7 @@ abbrev pub isFeed : Answer → TagDecoder → Bool
 isFeed (answer.Event (event.Start x p)) d = eqb (d .«open_count») 2
 isFeed (answer.Event (event.End e)) d = false
 isFeed (answer.Event (event.Data x p v)) d = false
-isFeed answer.NeedMore d = false
+isFeed (answer.NeedMore missing) d = false
 isFeed answer.Finished d = false
 isFeed (answer.Refused r) d = false
 

@@ -133,7 +133,7 @@ pub fn seen_after(c: Seen, answer: Answer, d: TagDecoder) -> Seen
 {
     match answer {
         Answer::Event(e) => event_seen(c, e, d),
-        Answer::NeedMore => c,
+        Answer::NeedMore { .. } => c,
         Answer::Finished => c,
         Answer::Refused(_) => c,
     }
@@ -231,7 +231,7 @@ pub fn verdict_at(c: Seen, answer: Answer, d: TagDecoder) -> Verdict
 {
     match answer {
         Answer::Event(_) => Verdict::NotEnded,
-        Answer::NeedMore => if_front(c, Verdict::TooLarge(d.position)),
+        Answer::NeedMore { .. } => if_front(c, Verdict::TooLarge(d.position)),
         Answer::Finished => {
             if c.begun {
                 return if_front(c, finished_as(c, d.position));

@@ -107,8 +107,8 @@ returns-5 c d e shown = c .plain5 .ensures ∙ exit-decides _ _ d _ (no-byte (no
 read-header-requires : tie.Need-read-header-requires
 read-header-requires c κs = search needs
 
-enum-told-2 : tie.Need-enum-told-2
-enum-told-2 c = search needs
+enum-known-missing : tie.Need-enum-known-missing
+enum-known-missing c = search needs
 
 plain-requires-6 : tie.Need-plain-requires-6
 plain-requires-6 c κs = search needs
@@ -135,8 +135,8 @@ steps6-11-requires c κs =
 
 returns-6 : tie.Need-returns-6
 returns-6 c d e shown =
-    let r = c .before .before .before in
-    c .plain6 .ensures ∙ exit-decides _ _ d _ (header-incomplete (at-bytes (r .before) d e) (sym (r .read-header .ensures) ∙ c .before .enum-told2 .given .1))
+    let r = c .before .before .before .before in
+    c .plain6 .ensures ∙ exit-decides _ _ d _ (header-incomplete (at-bytes (r .before) d e) (sym (r .read-header .ensures) ∙ c .before .before .missing .given .1))
 
 returns-7 : tie.Need-returns-7
 returns-7 c d e shown =
@@ -170,7 +170,7 @@ decide-spec =
     plain-requires-5
     returns-5
     read-header-requires
-    enum-told-2
+    enum-known-missing
     plain-requires-6
     enum-known-e-2
     parse-error-requires

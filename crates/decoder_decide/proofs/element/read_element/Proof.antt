@@ -13,15 +13,18 @@ use Rattle.decoder_decide.proofs.element.read_element.Tie as tie
 add-total : tie.Need-add-total
 add-total c = search needs
 
+sub-t12 : tie.Need-sub-t12
+sub-t12 c = search needs
+
 returns : tie.Need-returns
 unfolding readElement
 returns c = rw (lt-ltb _ _ (c .if1 .taken))
 
-add-t12 : tie.Need-add-t12
-add-t12 c = search needs
-
 add-t14 : tie.Need-add-t14
 add-t14 c = search needs
+
+add-t16 : tie.Need-add-t16
+add-t16 c = search needs
 
 sub-value-of : tie.Need-sub-value-of
 sub-value-of c = search needs
@@ -54,9 +57,10 @@ read-element-spec =
     tie.close
     (tie.spec
     add-total
+    sub-t12
     returns
-    add-t12
     add-t14
+    add-t16
     sub-value-of
     part-value-of-start
     part-value-of-end

@@ -15,9 +15,13 @@ shared-slice-read-id-length c = search needs
 id-length-requires : tie.Need-id-length-requires
 id-length-requires c κs = search needs
 
+sub-t9 : tie.Need-sub-t9
+sub-t9 c = search needs
+
 returns-2 : tie.Need-returns-2
 returns-2 c =
-    sym (id-short _ (c .before .before .before .if1 .left) (rw (← c .before .id-length .ensures) (c .if2 .taken)))
+    let e = c .before .id-length .ensures in
+    rw e (sym (id-short _ (c .before .before .before .if1 .left) (rw (← e) (c .if2 .taken))))
 
 slice-aggregate-arr-to-u64 : tie.Need-slice-aggregate-arr-to-u64
 slice-aggregate-arr-to-u64 c = sym (length-take-le _ _ (c .before .if2 .left))
@@ -50,6 +54,7 @@ read-tag-id-spec =
     returns
     shared-slice-read-id-length
     id-length-requires
+    sub-t9
     returns-2
     slice-aggregate-arr-to-u64
     arr-to-u64-requires

@@ -13,7 +13,7 @@ use Rattle.tools.proofs.signed_vint.read_signed_vint.Statement.{stateme
 use Rattle.tools.proofs.signed_vint.read_signed_vint.Tie as tie
 
 -- a value that was read is that of a vint of 1 to 8 bytes
-vint-of : (c : tie.After-known-told2) → Front (c .before .value .given .0 .1 .0) (c .before .value .given .0 .0) (c .before .before .before .before .before .args .buffer .now)
+vint-of : (c : tie.After-known-told3) → Front (c .before .value .given .0 .1 .0) (c .before .value .given .0 .0) (c .before .before .before .before .before .args .buffer .now)
 vint-of c =
     let t = c .before .before .before in
     read-sound (t .before .before .args .buffer .now) _ _ (λ i. t .before .shared-slice-known .given i .fits) (sym (t .read-vint .ensures) ∙ c .before .value .given .1)
@@ -21,8 +21,8 @@ vint-of c =
 read-vint-requires : tie.Need-read-vint-requires
 read-vint-requires c κs = search needs
 
-enum-told : tie.Need-enum-told
-enum-told c = search needs
+enum-known-missing : tie.Need-enum-known-missing
+enum-known-missing c = search needs
 
 enum-known-e : tie.Need-enum-known-e
 enum-known-e c = search needs
@@ -38,7 +38,7 @@ signed-of-requires c κs = let i = vint-of c .vint in (omega arith, omega arith,
 
 returns : tie.Need-returns
 unfolding takenSigned
-returns c = rw (← c .before .before .read-vint .ensures, c .enum-told .given .1)
+returns c = rw (← c .before .before .before .read-vint .ensures, c .before .missing .given .1)
 
 returns-2 : tie.Need-returns-2
 unfolding takenSigned
@@ -55,7 +55,7 @@ read-signed-vint-spec =
     tie.close
     (tie.spec
     read-vint-requires
-    enum-told
+    enum-known-missing
     enum-known-e
     enum-known-value
     mul-signed-of

@@ -27,9 +27,13 @@ returns-2 c = sym (read-zero _ (c .before .before .if1 .left) (c .if2 .taken))
 length-on-page-requires : tie.Need-length-on-page-requires
 length-on-page-requires c κs = search needs
 
+sub-t10 : tie.Need-sub-t10
+sub-t10 c = search needs
+
 returns-3 : tie.Need-returns-3
-returns-3 c = sym (read-short _ (c .before .before .before .before .if1 .left) (c .before .before .if2 .left)
-    (rw (← length-of (c .before)) (c .if3 .taken)))
+returns-3 c =
+    let e = length-of (c .before) in
+    rw e (sym (read-short _ (c .before .before .before .before .if1 .left) (c .before .before .if2 .left) (rw (← e) (c .if3 .taken))))
 
 be-number-requires : tie.Need-be-number-requires
 be-number-requires c κs = search needs
@@ -40,8 +44,8 @@ mul-pow2 c = search needs
 pow2-requires : tie.Need-pow2-requires
 pow2-requires c κs = omega arith
 
-sub-t11 : tie.Need-sub-t11
-sub-t11 c =
+sub-t13 : tie.Need-sub-t13
+sub-t13 c =
     let s = c .before .before .before .before .before .before .before .before .args .buffer .now in
     let e = length-of (c .before .before .before) in
     let byte = c .before .before .before .before .before .shared-slice-known2 .given in
@@ -63,9 +67,10 @@ read-vint-spec =
     shared-slice-read-first
     returns-2
     length-on-page-requires
+    sub-t10
     returns-3
     be-number-requires
     mul-pow2
     pow2-requires
-    sub-t11
+    sub-t13
     returns-4)
