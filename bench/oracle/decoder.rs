@@ -2,6 +2,7 @@
 
 use crate::fields::{bytes, list, unsigned, word};
 use crate::guard::guarded;
+use crate::missing::{is_size_begun, missing_of_header_and_payload};
 use crate::numbers::bits_or_nan;
 use crate::table::{is_lent, Tag};
 use bytes::BytesMut;
@@ -17,6 +18,9 @@ const MOST_WAITING: usize = 32;
 const GREATEST_POSITION: u64 = 1 << 62;
 const GREATEST_SIZE: u64 = 1 << 56;
 const MOST_SET: usize = 33;
+/// The bytes that are appended to see whether more are asked for.
+const MOST_APPENDED: usize = 512;
+const FILLERS: [u8; 4] = [0x00, 0x01, 0x80, 0xFF];
 
 type Answered = Result<Option<PositionedTag<Tag>>, TagIteratorError>;
 
@@ -68,16 +72,35 @@ impl Session {
             None => self.take_back(before, input, "PANIC"),
             Some(Ok(Some(_))) if self.record().open.len() > MOST_OPEN => self.take_back(before, input, "LIMIT"),
             Some(Ok(Some(tag))) => format!("{} {}", event(tag, input, taken), self.reached(taken)),
-            Some(Ok(None)) => format!(
-                "{} {}",
-                if self.record().is_finished { "F" } else { "N" },
-                self.reached(taken)
-            ),
+            Some(Ok(None)) if self.record().is_finished => format!("F {}", self.reached(taken)),
+            Some(Ok(None)) => format!("N {} need={}", self.reached(taken), self.missing(input)),
             Some(Err(error)) => {
                 assert_eq!((taken, self.decoder.position()), (0, before.position));
                 refusal(&error, before.position, input)
             }
         }
+    }
+
+    /// How many bytes are missing, by the bytes alone. The Rust is asked too, on the record as it is: with fewer it asks
+    /// for more again, and with so many, if they are chosen well, it does not.
+    fn missing(&self, input: &[u8]) -> usize {
+        let missing = missing_of_header_and_payload(input);
+        let fewer = (missing - 1).min(MOST_APPENDED);
+        assert!(FILLERS.iter().all(|filler| self.asks(input, &vec![*filler; fewer])));
+        if missing <= MOST_APPENDED && !is_size_begun(input) {
+            let size_0 = [vec![0; missing - 1], vec![0x80]].concat();
+            let some = [size_0, vec![0; missing], vec![0xFF; missing]];
+            assert!(some.iter().any(|further| !self.asks(input, further)));
+        }
+        missing
+    }
+
+    /// Whether the Rust asks for more still where these bytes are appended.
+    fn asks(&self, input: &[u8], further: &[u8]) -> bool {
+        let mut decoder = self.record().into_decoder();
+        let mut lent = BytesMut::from(&[input, further].concat()[..]);
+        let answered = guarded(AssertUnwindSafe(|| decoder.decode(&mut lent)));
+        matches!(answered, Some(Ok(None))) && !Record::of(&decoder).is_finished
     }
 
     fn reached(&self, taken: usize) -> String {

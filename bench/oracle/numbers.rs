@@ -8,7 +8,8 @@ use std::panic::UnwindSafe;
 
 pub enum Reply {
     Vint(Number, usize),
-    NeedMore,
+    /// How many bytes are missing.
+    NeedMore(usize),
     Written(Vec<u8>),
     Flag(bool),
     Value(Number),
@@ -70,9 +71,16 @@ fn read_vint(input: &[u8]) -> Reply {
     asked(|| {
         Ok(match tools::read_vint(input)? {
             Some((value, length)) => Reply::Vint(Number::Unsigned(value), length),
-            None => Reply::NeedMore,
+            None => Reply::NeedMore(missing_of_vint(input)),
         })
     })
+}
+
+/// How many bytes must be appended until the Rust asks for no more; the first of them, where there is none, begins a
+/// vint of one byte.
+pub fn missing_of_vint(input: &[u8]) -> usize {
+    let asks = |count: &usize| matches!(tools::read_vint(&[input, &vec![0x80; *count][..]].concat()), Ok(None));
+    (0..).find(|count| !asks(count)).unwrap_or_default()
 }
 
 /// The length that the Rust reads after this first byte; the page has 0 where it reads no vint.
@@ -105,7 +113,7 @@ fn read_signed_vint(input: &[u8]) -> Reply {
     asked(|| {
         Ok(match tools::read_signed_vint(input)? {
             Some((value, length)) => Reply::Vint(Number::Signed(value), length),
-            None => Reply::NeedMore,
+            None => Reply::NeedMore(missing_of_vint(input)),
         })
     })
 }
@@ -179,7 +187,7 @@ fn refusal(error: &ToolError) -> u64 {
 fn text(reply: Reply, float: impl Fn(f64) -> String) -> String {
     match reply {
         Reply::Vint(value, length) => format!("V {} {length}", value.text()),
-        Reply::NeedMore => "N".to_string(),
+        Reply::NeedMore(missing) => format!("N need={missing}"),
         Reply::Written(vint) => format!("B {}", hex(&vint)),
         Reply::Flag(flag) => u8::from(flag).to_string(),
         Reply::Value(value) => format!("V {}", value.text()),
@@ -204,7 +212,7 @@ fn bits(value: f64) -> String {
 fn gateway(reply: Reply, mut lent: Vec<u8>) -> Option<String> {
     let result = match reply {
         Reply::Vint(value, length) => write(&mut lent, &value.to_bytes(), length as u64),
-        Reply::NeedMore => 0,
+        Reply::NeedMore(missing) => 512 + missing as u64,
         Reply::Written(vint) => write(&mut lent, &vint, vint.len() as u64),
         Reply::Flag(flag) => u64::from(flag),
         Reply::Value(value) => write(&mut lent, &value.to_bytes(), 8),

@@ -3,6 +3,7 @@
 mod decoder;
 pub mod fields;
 mod guard;
+mod missing;
 mod numbers;
 mod table;
 
