@@ -9,6 +9,8 @@ pub mod EndExits
 pub mod NumbersFit
 pub mod AppendedDecision
 pub mod Missing
+pub mod Enough
+pub mod MissingExamples
 pub mod Computing
 pub mod RefusalNumbers
 pub mod Unique

@@ -1,8 +1,8 @@
 -- Document 02, CR 1: the number of bytes that a decision waits for. "With fewer further bytes the answer is still
 -- need-more, unless 12 comes first." Assumes nothing.
 use Prim.Native.Nat.{ℕ, _+_, _-_, _≤_, _<_}
-use mathlib.Core.Path.{_≡_, refl, sym, ap, _∙_}
-use mathlib.Core.Bool.{Bool, true, false, true≢false}
+use mathlib.Core.Path.{_≡_, refl, sym}
+use mathlib.Core.Bool.{true, false, true≢false}
 use mathlib.Core.List.{List, _++_}
 use native.Mathlib.Decide.{decLe}
 use native.Mathlib.Omega.{arith}
@@ -59,7 +59,7 @@ decision-asks es ps d s = go (exits es ps d s)
     go (unknown-id h at f) = refl
     go (on-header h at f x) = header-exit-asks x
 
-closing-never : {t : List Entry} {d : TagDecoder} {k : ℕ} {a : Action} → Closing t d k a → actionNeedsMore a ≡ true → ⊥
+pub closing-never : {t : List Entry} {d : TagDecoder} {k : ℕ} {a : Action} → Closing t d k a → actionNeedsMore a ≡ true → ⊥
 closing-never (closes m) q = true≢false (sym q)
 closing-never (no-master m) q = true≢false (sym q)
 

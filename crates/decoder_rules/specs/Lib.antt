@@ -3,6 +3,7 @@ pub mod Settings
 pub mod Numbers
 pub mod OneCall
 pub mod Deciding
+pub mod Missing
 pub mod Moving
 pub mod EndOfInput
 pub mod Recovery

@@ -1,18 +1,22 @@
 -- Document 02, CR 1, of the decoder's calls: "With fewer further bytes the answer is still need-more, unless 12 comes
--- first." Assumes nothing.
+-- first." And whether as many bytes as are missing are ever enough. Assumes nothing.
 use Prim.Native.Nat.{ℕ, _+_, _≤_, _<_}
 use mathlib.Core.Path.{_≡_, refl, sym, ap, _∙_}
-use mathlib.Core.Bool.{Bool, true, false, true≢false}
+use mathlib.Core.Bool.{Bool, true, false}
 use mathlib.Core.List.{List, _++_}
+use mathlib.Core.Logic.{_⊎_, inl, inr}
 use native.Mathlib.Omega.{arith}
 use borrow.Author.Tests.{lt-ltb, ltb-false}
 use lib.Dec.{ltb}
 use lib.ListN.{length}
 use Rattle.tools.specs.Bytes.{Octets}
+use Rattle.tools.specs.Missing.{Enough}
 use Rattle.decoder_rules.specs.Record.{farthest}
 use Rattle.decoder_rules.specs.Deciding.{actionMissing, decide}
+use Rattle.decoder_rules.specs.Missing.{Stuck}
 use Rattle.decoder_rules.specs.Moving.{needsMore, missingIn, decode}
 use Rattle.decoder_rules.specs.declared.types.TagDecoder.{TagDecoder}
+use Rattle.decoder_rules.proofs.Enough.{enough-or-stuck}
 use Rattle.decoder_rules.proofs.Missing.{decision-asks, decision-missing, waits-unfinished}
 use Rattle.decoder_rules.proofs.MoveLaws.{decode-needs-more, decode-missing-decided}
 use Rattle.tag_decoder_laws.proofs.AppendedBytes.{octets-front, need-more-changes-nothing}
@@ -41,3 +45,18 @@ module _ (es ps : List ℕ) (d : TagDecoder) (s u : List ℕ) (byte : Octets (s 
       let left = answer-missing in
       let some : 0 < missingIn (decode es ps (decode es ps d s .state) (s ++ u) .answer) = omega arith in
       answer-asks es ps (decode es ps d s .state) (s ++ u) ∙ lt-ltb 0 _ some
+
+-- some further bytes, as many as are missing, bring another answer, or the call is stuck; 12 does not come
+pub answer-enough : (es ps : List ℕ) (d : TagDecoder) (s : List ℕ) → Octets s → d .position + (length s + missingIn (decode es ps d s .answer)) ≤ farthest
+    → Enough (λ l. missingIn (decode es ps d l .answer)) s ⊎ Stuck es ps d s
+answer-enough es ps d s byte near = go (enough-or-stuck es ps d s byte (rw (decode-missing-decided es ps d s) at near))
+  where
+    go : Enough (λ l. actionMissing (decide es ps d l .action)) s ⊎ Stuck es ps d s → Enough (λ l. missingIn (decode es ps d l .answer)) s ⊎ Stuck es ps d s
+    go (inl e) =
+        inl (record {
+          further = e .further;
+          bytes = e .bytes;
+          count = e .count ∙ sym (decode-missing-decided es ps d s);
+          none = decode-missing-decided es ps d (s ++ e .further) ∙ e .none;
+        })
+    go (inr x) = inr x

@@ -6,3 +6,4 @@ pub mod NumberSizes
 pub mod Unique
 pub mod Computing
 pub mod Missing
+pub mod Completing

@@ -1,6 +1,6 @@
 -- Document 02, CR 1: the number that a need-more of an ID or of a header has is the least number of further bytes with
 -- which the answer can be another. Assumes nothing.
-use Prim.Native.Nat.{ℕ, zero, suc, _+_, _-_, _≤_, _<_}
+use Prim.Native.Nat.{ℕ, _+_, _-_, _≤_, _<_}
 use mathlib.Core.Bool.{Bool, true, false, cond, true≢false}
 use mathlib.Core.List.{List, [], _∷_, _++_, append-assoc}
 use mathlib.Core.Path.{_≡_, refl, sym, ap, _∙_}
@@ -9,10 +9,9 @@ use native.Mathlib.Omega.{arith}
 use borrow.Author.Tests.{lt-ltb}
 use lib.Dec.{ltb}
 use lib.ListN.{length, getD, drop, length-append, length-drop, List·getD-append}
-use lib.Seq.{take-all, drop-at, drop-append-le}
-use Rattle.tools.specs.Bytes.{Octets}
+use lib.Seq.{drop-at, drop-append-le}
 use Rattle.tools.specs.Missing.{FewerStillMissing, Enough, TellsMissing}
-use Rattle.tools.specs.Vint.{vintLength, lessPresent, missingOfNone, readVint, vintNeedsMore, vintMissing}
+use Rattle.tools.specs.Vint.{lessPresent, missingOfNone, readVint, vintNeedsMore, vintMissing}
 use Rattle.tools.specs.declared.vint.ReadVint.{ReadVint}
 use Rattle.tools.specs.declared.vint.ReadVint.the-variants as vint
 use Rattle.tools.proofs.BigEndian.{octets-append}
@@ -106,6 +105,24 @@ completed s u {x} {n} {m} e f = go (reading-id s) (reading-id (s ++ u))
         omega arith
     go (all-there some' g) (all-there some h) = absurd (not-more (id-whole s some' g) e)
 
+-- an ID that bytes make whole, with no byte behind it
+pub record IdCompleted (s u : List ℕ) : Type 0 where
+  pub x : ℕ
+  pub n : ℕ
+  pub is : readTagId (s ++ u) ≡ id.TagId x n
+  pub all : length (s ++ u) ≡ n
+
+-- where nothing is missing behind as many bytes as were
+pub id-completed : (s u : List ℕ) {m : ℕ} → readTagId s ≡ id.NeedMore m → length u ≡ m → idMissing (readTagId (s ++ u)) ≡ 0 → IdCompleted s u
+id-completed s u {m} e count z = go (readTagId (s ++ u)) refl
+  where
+    go : (r : ReadTagId) → readTagId (s ++ u) ≡ r → IdCompleted s u
+    go (id.NeedMore k) f = absurd (true≢false (sym (ap idNeedsMore f) ∙ id-asks (s ++ u) ∙ rw z))
+    go (id.TagId x n) f =
+        let c = completed s u e f in
+        let there = id-there (s ++ u) f in
+        record { x = x; n = n; is = f; all = omega (arith, length-append s u) }
+
 -- ---- headers
 
 -- what a size vint makes of an ID asks as the vint does
@@ -119,7 +136,7 @@ sized-missing x spec n (vint.Vint v L) = go (tooLong (spec .kind) v)
     go true = refl
     go false = refl
 
-sized-asks : (x : ℕ) (spec : Spec) (n : ℕ) (r : ReadVint) → headerNeedsMore (sized x spec n r) ≡ vintNeedsMore r
+pub sized-asks : (x : ℕ) (spec : Spec) (n : ℕ) (r : ReadVint) → headerNeedsMore (sized x spec n r) ≡ vintNeedsMore r
 unfolding sized sizedBy
 sized-asks x spec n (vint.NeedMore missing) = refl
 sized-asks x spec n (vint.Refused e) = refl
@@ -185,17 +202,6 @@ module _ (t : List Entry) where
   header-enough : (s : List ℕ) → Enough (λ l. headerMissing (readHeader t l)) s
   header-enough s = at-id (readTagId s) refl
     where
-      ends : {m : ℕ} → readTagId s ≡ id.NeedMore m → (u : List ℕ) → length u ≡ m → (r : ReadTagId) → readTagId (s ++ u) ≡ r → idMissing (readTagId (s ++ u)) ≡ 0
-          → headerMissing (readHeader t (s ++ (u ++ (128 ∷ [])))) ≡ 0
-      ends e u count (id.NeedMore k) f z = absurd (true≢false (sym (ap idNeedsMore f) ∙ id-asks (s ++ u) ∙ rw z))
-      ends e u count (id.TagId x n) f z =
-          let c = completed s u e f in
-          let there = id-there (s ++ u) f in
-          let more : length (s ++ u) ≡ length s + length u = length-append s u in
-          let all : length (s ++ u) ≡ n = omega arith in
-          rw (← append-assoc s u (128 ∷ []))
-          (after-missing ((s ++ u) ++ (128 ∷ [])) (id-local (s ++ u) (128 ∷ []) f) ∙ rw (drop-at (s ++ u) (128 ∷ []) n all) one-enough)
-
       at-id : (r : ReadTagId) → readTagId s ≡ r → Enough (λ l. headerMissing (readHeader t l)) s
       at-id (id.NeedMore m) e =
           let q = id-missing s .enough in
@@ -204,7 +210,11 @@ module _ (t : List Entry) where
             further = q .further ++ (128 ∷ []);
             bytes = octets-append (q .further) (128 ∷ []) (q .bytes) one-octet;
             count = length-append (q .further) (128 ∷ []) ∙ rw (count, part-missing s e);
-            none = ends e (q .further) count (readTagId (s ++ q .further)) refl (q .none);
+            none =
+                let w = id-completed s (q .further) e count (q .none) in
+                let u = q .further in
+                rw (← append-assoc s u (128 ∷ []))
+                (after-missing ((s ++ u) ++ (128 ∷ [])) (id-local (s ++ u) (128 ∷ []) (w .is)) ∙ rw (drop-at (s ++ u) (128 ∷ []) (w .n) (w .all)) one-enough);
           }
       at-id (id.TagId x n) e =
           let q = vint-missing (drop n s) .enough in

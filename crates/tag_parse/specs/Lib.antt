@@ -1,3 +1,4 @@
 pub mod Refusals
 pub mod Header
+pub mod Missing
 pub mod Payload

@@ -9,6 +9,7 @@ pub mod Complement
 pub mod Widening
 pub mod Signed
 pub mod Missing
+pub mod Completing
 pub mod Floats
 pub mod IsVint
 pub mod IdForms

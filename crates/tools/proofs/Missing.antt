@@ -1,7 +1,6 @@
 -- Document 02, CR 1: the number that a vint's need-more has is the least number of further bytes with which the answer
 -- can be another. Assumes nothing.
 use Prim.Native.Nat.{ℕ, zero, suc, _+_, _-_, _≤_, _<_}
-use mathlib.Core.Bool.{Bool, true, false}
 use mathlib.Core.List.{List, [], _∷_, _++_, append-nil}
 use mathlib.Core.Path.{_≡_, refl, sym, ap, _∙_}
 use native.Mathlib.Decide.{decLe}
@@ -12,7 +11,7 @@ use lib.Dec.{ltb}
 use lib.ListN.{length, getD, replicate, length-append, length-replicate, List·getD-append}
 use lib.Seq.{take-all}
 use Rattle.tools.specs.Bytes.{Octets}
-use Rattle.tools.specs.Missing.{FewerStillMissing, Enough, TellsMissing}
+use Rattle.tools.specs.Missing.{FewerStillMissing, TellsMissing}
 use Rattle.tools.specs.SignedVint.{takenSigned, readSignedVint, signedVintMissing}
 use Rattle.tools.specs.Vint.{vintLength, lessPresent, missingOfNone, readVint, vintNeedsMore, vintMissing}
 use Rattle.tools.specs.declared.vint.ReadVint.{ReadVint}
