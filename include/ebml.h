@@ -44,7 +44,8 @@ extern "C" {
 /* The number of a result that is a refusal. */
 #define EBML_REFUSAL(n) ((int)((n) % 65536 - EBML_REFUSED))
 
-/* What is added to the number of missing bytes in a result that asks for more. */
+/* What is added to the number of missing bytes in a result that asks for more. Until 0.2.0 need-more was the result 0:
+ * a caller that compared with 0 asks EBML_NEEDS_MORE instead. No call that reads answers 0 any more. */
 #define EBML_NEED_MORE 512
 
 /* Whether the result of a call that reads a vint asks for more bytes. */
