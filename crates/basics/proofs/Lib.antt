@@ -1,5 +1,6 @@
 pub mod Bools
 pub mod Every
+pub mod Least
 pub mod Loops
 pub mod Sums
 pub mod ArrayOf32

@@ -1,2 +1,3 @@
 pub mod Lists
+pub mod Least
 pub mod Unique

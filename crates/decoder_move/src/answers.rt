@@ -2,22 +2,18 @@
 
 ghost use mathlib.Core.Path.{_≡_};
 ghost use Prim.Native.Nat.{_-_, min, _≤_, _<_};
-ghost use Rattle.decoder_rules.specs.OneCall.{noted};
 ghost use Rattle.decoder_rules.specs.Moving.{gives, refuse, move};
 ghost use Rattle.decoder_rules.specs.declared.types.Action.the-variants.{Close};
-ghost use Rattle.decoder_move.specs.Applies.{NoteApplies};
 ghost use Rattle.decoder_move.specs.Answers.{answerTo, takenBy};
 ghost use Rattle.spec_util.specs.Walk.{mostOpen};
 use crate::moves::LAST_PLACE;
 use crate::moves::closed_to;
 use crate::moves::end_for;
-use crate::moves::settled_to;
 use decoder_rules::types::Action;
 use decoder_rules::types::Answer;
 use decoder_rules::types::DecodeError;
 use decoder_rules::types::Decoded;
 use decoder_rules::types::Event;
-use decoder_rules::types::Note;
 use decoder_rules::types::Refusal;
 use decoder_rules::types::TagDecoder;
 use decoder_rules::types::WaitingEnd;
@@ -103,16 +99,5 @@ pub fn taken_by(action: Action) -> usize
         Action::Close(_) => 0,
         Action::Start { len, .. } => len,
         Action::Data { taken, .. } => taken,
-    }
-}
-
-// The record with the note.
-pub fn noted(parts: &[u64], d: TagDecoder, note: Note) -> TagDecoder
-    requires { ⌜ NoteApplies (now parts) note ⌝ }
-    ensures { λ r. ⌜ r ≡ noted (now (parts .entry)) d note ⌝ }
-{
-    match note {
-        Note::NoNote => d,
-        Note::Settle(path) => settled_to(d, parts, path),
     }
 }

@@ -8,7 +8,7 @@ ghost use Rattle.basics.specs.Lists.{every};
 ghost use Rattle.table.specs.Table.{partsOf, partsIn};
 ghost use Rattle.decoder_rules.specs.OneCall.{goodOpen};
 ghost use Rattle.decoder_rules.specs.Moving.{masterAt};
-ghost use Rattle.decoder_rules.specs.Record.{farthest, opens, noEnd, endFor, fresh, withNotes, atPosition, implied, settledTo, closedTo, handedOut, sizeGrown, withSizesGrown};
+ghost use Rattle.decoder_rules.specs.Record.{farthest, opens, noEnd, endFor, fresh, withNotes, implied, settledTo, closedTo, handedOut, sizeGrown, withSizesGrown};
 ghost use Rattle.spec_util.specs.Walk.{mostOpen};
 use decoder_rules::types::FIRST_GREATEST_SIZE;
 use decoder_rules::types::Settings;
@@ -67,14 +67,6 @@ pub fn fresh() -> TagDecoder
         waiting: [end; MOST_OPEN],
         waiting_count: 0,
     }
-}
-
-// The record at another position.
-pub fn at_position(mut d: TagDecoder, p: u64) -> TagDecoder
-    ensures { λ r. ⌜ r ≡ atPosition d p ⌝ }
-{
-    d.position = p;
-    d
 }
 
 // The record, finished.

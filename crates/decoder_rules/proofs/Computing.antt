@@ -9,8 +9,9 @@ use Rattle.decoder_rules.specs.Deciding.{steps10-11, steps8-11, steps6-1
 use Rattle.decoder_rules.specs.Moving.{move, apply}
 use Rattle.decoder_rules.specs.EndOfInput.{cutBytes, isCut, finish, closeAll, endOfInput, decodeEof}
 use Rattle.decoder_rules.specs.Recovery.{judgedAt, headerAt, placeAt, endOfSearch, ending, tryRecover}
+use Rattle.decoder_rules.specs.FirstPlace.{settleAt, settleBefore, noteBefore, recordOn, standsAt, firstPlace}
 use Rattle.decoder_rules.specs.Run.{inARow}
 
 unfoldable pub rulesCompute : Unit {0}
-unfolding listsCompute walksCompute elementsCompute endFor endsFrom withSettings withOpen withWaiting withNotes settledTo opened closedTo handedOut sizeGrown withSizesGrown goodOpen goodState check10to12 checkRecord10to12 check13 isFull closeOrFault noted step8 reaches step9 validHeader endedTops readElement elementOf step11 steps10-11 steps8-11 steps6-11 step5 steps4-11 steps2-11 decide move apply cutBytes isCut finish closeAll endOfInput decodeEof judgedAt headerAt placeAt endOfSearch ending tryRecover inARow
+unfolding listsCompute walksCompute elementsCompute endFor endsFrom withSettings withOpen withWaiting withNotes settledTo opened closedTo handedOut sizeGrown withSizesGrown goodOpen goodState check10to12 checkRecord10to12 check13 isFull closeOrFault noted step8 reaches step9 validHeader endedTops readElement elementOf step11 steps10-11 steps8-11 steps6-11 step5 steps4-11 steps2-11 decide move apply cutBytes isCut finish closeAll endOfInput decodeEof judgedAt headerAt placeAt endOfSearch ending tryRecover settleAt settleBefore noteBefore recordOn standsAt firstPlace inARow
 rulesCompute = tt

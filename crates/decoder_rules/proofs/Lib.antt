@@ -3,6 +3,8 @@ pub mod MoveEffects
 pub mod EmptyPlacesZero
 pub mod MovesKeepGoodState
 pub mod MoveLaws
+pub mod Places
+pub mod FirstPlace
 pub mod Exits
 pub mod HeaderPath
 pub mod EndExits
@@ -12,5 +14,6 @@ pub mod Missing
 pub mod Enough
 pub mod MissingExamples
 pub mod Computing
+pub mod RecoveryExamples
 pub mod RefusalNumbers
 pub mod Unique

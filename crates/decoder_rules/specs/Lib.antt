@@ -7,4 +7,5 @@ pub mod Missing
 pub mod Moving
 pub mod EndOfInput
 pub mod Recovery
+pub mod FirstPlace
 pub mod Run

@@ -41,6 +41,6 @@ answerRefusal (answer.Refused r) = errorNumber (r .error)
 
 -- the same of what a recovery answers
 abbrev pub searchRefusal : Search → ℕ
-searchRefusal search.Found = 0
-searchRefusal search.NotFound = 0
+searchRefusal (search.Found passed) = 0
+searchRefusal (search.NotFound passed) = 0
 searchRefusal (search.Refused r) = errorNumber (r .error)

@@ -1,7 +1,7 @@
 -- Document 01, "One call of the decoder, in order", "Recovery": the search for the next valid header, one place after
 -- the other. Here t is the lent table as entries, d the record at a place, s the bytes from there on.
 use Prim.Native.Nat.{ℕ, _+_, _-_}
-use mathlib.Core.Bool.{cond}
+use mathlib.Core.Bool.{Bool, true, false, cond}
 use mathlib.Core.List.{List, [], _∷_}
 use lib.ListN.{length}
 use Rattle.table.specs.Table.{Entry, tableOf}
@@ -17,6 +17,7 @@ use Rattle.decoder_rules.specs.declared.types.Place.{Place}
 use Rattle.decoder_rules.specs.declared.types.Place.the-variants.{Stop, Found, On}
 use Rattle.decoder_rules.specs.declared.types.PlaceResult.{PlaceResult}
 use Rattle.decoder_rules.specs.declared.types.Recovered.{Recovered}
+use Rattle.decoder_rules.specs.declared.types.Search.{Search}
 use Rattle.decoder_rules.specs.declared.types.Search.the-variants as search
 use Rattle.decoder_rules.specs.declared.types.TagDecoder.{TagDecoder}
 
@@ -70,12 +71,18 @@ unfoldable pub endOfSearch : List ℕ → List Entry → TagDecoder → List ℕ
 endOfSearch ps t d [] = at Stop d
 endOfSearch ps t d (b ∷ s) = unlessOn (placeAt ps t d (b ∷ s) .place) (placeAt ps t d (b ∷ s) .state) (λ next. endOfSearch ps t next s)
 
--- what is answered where the search that began at the position `start` ends with the record e; found, "every open known
--- size grows by the bytes passed over"
+-- the bytes passed over by a search that began at the position `start` and ends with the record e
+abbrev pub passedOver : ℕ → TagDecoder → ℕ
+passedOver start e = e .position - start
+
+-- what is answered where the search that began at the position `start` ends with the record e: document 02, CR 13:
+-- "Recovery reports the bytes passed over." They are the bytes taken. Found, "every open known size grows by the bytes
+-- passed over"
 abbrev pub endingAt : ℕ → Place → TagDecoder → Recovered
-endingAt start Stop e = record { answer = search.NotFound; taken = e .position - start; state = e }
-endingAt start Found e = record { answer = search.Found; taken = e .position - start; state = withSizesGrown e (e .position - start) }
-endingAt start On e = record { answer = search.NotFound; taken = e .position - start; state = e }
+endingAt start Stop e = record { answer = search.NotFound (passedOver start e); taken = passedOver start e; state = e }
+endingAt start Found e =
+    record { answer = search.Found (passedOver start e); taken = passedOver start e; state = withSizesGrown e (passedOver start e) }
+endingAt start On e = record { answer = search.NotFound (passedOver start e); taken = passedOver start e; state = e }
 
 -- what is answered at the place where the search ends
 unfoldable pub ending : ℕ → PlaceResult → Recovered
@@ -89,3 +96,17 @@ searchOr ps t d s (Fail e) = record { answer = search.Refused (record { error = 
 -- one call of a recovery with the bytes s: "Only 10, 11, 12 refuse a recovery."
 unfoldable pub tryRecover : List ℕ → List ℕ → TagDecoder → List ℕ → Recovered
 tryRecover es ps d s = searchOr ps (tableOf es ps) d s (checkRecord10to12 es ps d (length s))
+
+-- ---- what is answered
+
+-- how many bytes a recovery passed over; a refused one passes none
+abbrev pub passedIn : Search → ℕ
+passedIn (search.Found passed) = passed
+passedIn (search.NotFound passed) = passed
+passedIn (search.Refused r) = 0
+
+-- whether a recovery found a valid header
+abbrev pub isFound : Search → Bool
+isFound (search.Found passed) = true
+isFound (search.NotFound passed) = false
+isFound (search.Refused r) = false

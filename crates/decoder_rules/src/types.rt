@@ -161,10 +161,10 @@ pub struct Decision {
     pub action: Action,
 }
 
-// Whether a recovery found a valid header; the refusals are 10, 11 and 12.
+// Whether a recovery found a valid header, and how many bytes it passed over; the refusals are 10, 11 and 12.
 pub enum Search {
-    Found,
-    NotFound,
+    Found { passed: usize },
+    NotFound { passed: usize },
     Refused(Refusal),
 }
 

@@ -26,12 +26,13 @@ use Rattle.decoder_rules.specs.declared.types.TagDecoder.{TagDecoder}
 use Rattle.basics.proofs.Bools.{cond-yes, cond-no}
 use Rattle.decoder_rules.specs.Record.{withSettings}
 use Rattle.decoder_rules.specs.Settings.{withAllowances, withGreatest, allowing, limitedTo}
+use Rattle.decoder_rules.proofs.FirstPlace.{settled-before}
 use Rattle.decoder_rules.proofs.MoveEffects.{opens-length}
 use Rattle.guarantees.specs.Calls.{Call, decoding, ending, recovering, allow, limit, lent, Response, answered, searched, silent, responseTo, next, recordAfter, history, Lent}
 use Rattle.guarantees.specs.Settling.{impliedBy, seenNote, hasSettled, seenParents}
 use Rattle.guarantees.specs.History.{Started, afterResponse, startsOpen, leftBy, parentsLeft, takenIn, position, testAfter, childTestOn}
 use Rattle.guarantees.specs.Promises.{Runs, leftAt}
-use Rattle.guarantees.proofs.Notes.{way, way-of-settled, searchNoteOr, noteOf}
+use Rattle.guarantees.proofs.Notes.{searchNoteOr, noteOf}
 use Rattle.guarantees.proofs.Decided.{NoteFacts, decide-facts}
 use Rattle.guarantees.proofs.Tied.{stack, Tied, fresh-tied}
 use Rattle.guarantees.proofs.Moves.{settings-linked}
@@ -142,7 +143,7 @@ module _ (es ps : List ℕ) (checked : checkTable es ps ≡ Passed) (d : TagDeco
   settled-implies-none (recovering s) byte u = go (checkRecord10to12 es ps d (length s))
     where
       go : (x : Check) → impliedBy ps (searchNoteOr ps (tableOf es ps) d s x) ≡ []
-      go Pass = ap (impliedBy ps) (way-of-settled (way ps (tableOf es ps) s d) u)
+      go Pass = ap (impliedBy ps) (settled-before (tableOf es ps) d s _ u)
       go (Fail e) = refl
   settled-implies-none (allow ids hierarchy oversized) byte u = refl
   settled-implies-none (limit n) byte u = refl

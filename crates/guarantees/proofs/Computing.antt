@@ -2,9 +2,10 @@
 -- `unfolding historyComputes` opens all of it. Assumes nothing.
 use Rattle.decoder_rules.proofs.Computing.{rulesCompute}
 use Rattle.guarantees.specs.Calls.{recordAfter, history}
-use Rattle.guarantees.specs.Settling.{impliedBy, settleAt, settleWithin, hasSettled}
+use Rattle.guarantees.specs.Settling.{impliedBy, hasSettled}
 use Rattle.guarantees.specs.History.{declaredEnd, later, startsOpen, parentsLeft, position}
+use Rattle.guarantees.specs.Skipped.{takenByEvents, skipped, knownEnds}
 
 unfoldable pub historyComputes : Unit {0}
-unfolding rulesCompute recordAfter history impliedBy settleAt settleWithin hasSettled declaredEnd later startsOpen parentsLeft position
+unfolding rulesCompute recordAfter history impliedBy hasSettled declaredEnd later startsOpen parentsLeft position takenByEvents skipped knownEnds
 historyComputes = tt

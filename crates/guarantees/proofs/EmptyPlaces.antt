@@ -1,7 +1,7 @@
 -- The empty places of a decoder's record are zero, after any calls on a fresh decoder and with any words for a table:
 -- its arrays are its two lists with empty places after them. Each move, each call and each setting keeps it. Assumes
 -- nothing.
-use Prim.Native.Nat.{ℕ, _+_, _≤_, _<_}
+use Prim.Native.Nat.{ℕ, suc, _+_, _≤_, _<_}
 use mathlib.Core.Path.{_≡_, refl}
 use mathlib.Core.Bool.{Bool, true}
 use mathlib.Core.List.{List, [], _∷_}
@@ -13,14 +13,12 @@ use Rattle.table.specs.Shape.{goodShape}
 use Rattle.table.specs.Table.{tableOf, partsOf, partsIn}
 use Rattle.table.specs.declared.types.PathPart.{PathPart}
 use Rattle.spec_util.specs.declared.types.OpenTag.{OpenTag}
-use Rattle.tag_parse.specs.Header.{readHeader}
-use Rattle.tag_parse.specs.declared.types.ReadHeader.{ReadHeader}
-use Rattle.tag_parse.specs.declared.types.ReadHeader.the-variants as header
 use Rattle.decoder_rules.specs.Record.{fresh, withSettings, withOpen, withWaiting, withNotes, settledTo, opened, closedTo, handedOut, withSizesGrown}
-use Rattle.decoder_rules.specs.OneCall.{checkRecord10to12, step6, settles, step7, noted}
+use Rattle.decoder_rules.specs.OneCall.{checkRecord10to12, noted}
 use Rattle.decoder_rules.specs.Deciding.{decide}
 use Rattle.decoder_rules.specs.Moving.{move, apply, decode, masterAt}
-use Rattle.decoder_rules.specs.Recovery.{endOfSearch, endingAt, ending as endingOf, searchOr, tryRecover}
+use Rattle.decoder_rules.specs.Recovery.{tryRecover}
+use Rattle.decoder_rules.specs.FirstPlace.{recordOn, Standing, Incomplete, Valid, Other, standsAt, firstPlace, recoveredAt}
 use Rattle.decoder_rules.specs.Settings.{limitedTo}
 use Rattle.decoder_rules.specs.declared.types.Action.{Action}
 use Rattle.decoder_rules.specs.declared.types.Action.the-variants as act
@@ -31,23 +29,19 @@ use Rattle.decoder_rules.specs.declared.types.Note.{Note}
 use Rattle.decoder_rules.specs.declared.types.Note.the-variants.{NoNote, Settle}
 use Rattle.decoder_rules.specs.declared.types.Optional.{Optional}
 use Rattle.decoder_rules.specs.declared.types.Optional.the-variants.{Nothing, Number}
-use Rattle.decoder_rules.specs.declared.types.Place.{Place}
-use Rattle.decoder_rules.specs.declared.types.Place.the-variants.{Stop, Found, On}
-use Rattle.decoder_rules.specs.declared.types.PlaceResult.{PlaceResult}
 use Rattle.decoder_rules.specs.declared.types.Settings.{Settings}
 use Rattle.decoder_rules.specs.declared.types.TagDecoder.{TagDecoder}
 use Rattle.decoder_rules.proofs.EmptyPlacesZero.{Clean, fresh-clean, with-notes-clean, settled-clean, opened-clean, closed-clean, handed-clean, grown-clean}
 use Rattle.decoder_rules.proofs.EndExits as end
 use Rattle.decoder_rules.proofs.EndExits.{EndExit, EofExit, eof-exits}
+use Rattle.decoder_rules.proofs.FirstPlace.{note-holds, recovery-is-first}
 use Rattle.decoder_rules.proofs.GoodState.{passed12}
 use Rattle.decoder_rules.proofs.MoveEffects.{Arrays, fresh-arrays, with-notes-arrays, settled-arrays, opened-arrays, closed-arrays, handed-arrays, grown-arrays}
 use Rattle.decoder_rules.proofs.MoveLaws.{withNote}
 use Rattle.decoder_move.specs.Applies.{NoteApplies, ActionApplies}
-use Rattle.decoder_move.proofs.DecisionApplies.{decide-applies, note-none, note-settle}
-use Rattle.basics.proofs.Bools.{pick}
+use Rattle.decoder_move.proofs.DecisionApplies.{decide-applies, note-none}
+use Rattle.tag_decoder.proofs.Recovering.{step7-applies}
 use Rattle.guarantees.specs.Calls.{Call, decoding, ending, recovering, allow, limit, lent, next, recordAfter, Lent}
-use Rattle.guarantees.proofs.Notes.{readNote, placeNote, Way, no-byte, ends-here, goes-on, way}
-use Rattle.guarantees.proofs.Decided.{path-short}
 
 -- a record whose empty places are zero: it has its places, and its counts are at most 32
 pub record Tidy (d : TagDecoder) : Type 0 where
@@ -164,43 +158,28 @@ module _ (es ps : List ℕ) (d : TagDecoder) (k : Tidy d) (s : List ℕ) (byte :
   exit-tidy (end.as-decoded q) = decode-tidy
   exit-tidy (end.at-end q x) = ended-tidy with-note-tidy x
 
--- ---- a recovery, place by place
+-- ---- a recovery
 
-module _ (es ps : List ℕ) (shape : goodShape es ps ≡ true) where
-  place-applies : (d : TagDecoder) (s : List ℕ) → NoteApplies ps (placeNote (tableOf es ps) d s)
-  unfolding placeNote
-  place-applies d s = go (readHeader (tableOf es ps) s) refl
-    where
-      go : (r : ReadHeader) → readHeader (tableOf es ps) s ≡ r → NoteApplies ps (readNote (tableOf es ps) d r)
-      go (header.NeedMore missing) e = note-none ps
-      go (header.Refused x) e = note-none ps
-      go (header.Header h) e =
-          pick (NoteApplies ps) (step6 d h) (step7 (tableOf es ps) d h) NoNote
-          (λ f. pick (NoteApplies ps) (settles (tableOf es ps) d h) (Settle (h .path)) NoNote (λ g. note-settle ps (h .path) (path-short es ps s h e shape)) (λ g. note-none ps))
-          (λ f. note-none ps)
+module _ (es ps : List ℕ) (shape : goodShape es ps ≡ true) (d : TagDecoder) where
+  -- so it is on the way of a search
+  pub on-tidy : Tidy d → (s : List ℕ) (n i : ℕ) → Tidy (recordOn ps (tableOf es ps) d s n i)
+  unfolding recordOn
+  on-tidy k s n i = notes-tidy _ (noted-tidy d k ps _ (note-holds (tableOf es ps) d (NoteApplies ps) (note-none ps) (λ r h e. step7-applies es ps shape d r h e) s n)) _ _ _
 
-  place-tidy : (d : TagDecoder) (s : List ℕ) → Tidy d → Tidy (noted ps d (placeNote (tableOf es ps) d s))
-  place-tidy d s k = noted-tidy d k ps (placeNote (tableOf es ps) d s) (place-applies d s)
-
-  way-tidy : {d : TagDecoder} {s : List ℕ} {n : Note} {p : PlaceResult} → Way ps (tableOf es ps) d s n p → Tidy d → Tidy (p .state)
-  way-tidy (no-byte d) k = k
-  way-tidy (ends-here d b s q) k = place-tidy d (b ∷ s) k
-  way-tidy (goes-on d b s w) k = way-tidy w (notes-tidy _ (place-tidy d (b ∷ s) k) _ _ _)
-
-ending-tidy : (p : ℕ) (q : Place) (e : TagDecoder) → Tidy e → Tidy (endingAt p q e .state)
-ending-tidy p Stop e k = k
-ending-tidy p Found e k = grown-tidy e k _
-ending-tidy p On e k = k
+standing-tidy : (x : Standing) (n : ℕ) (e : TagDecoder) → Tidy e → Tidy (recoveredAt x n e .state)
+standing-tidy Incomplete n e k = k
+standing-tidy Valid n e k = grown-tidy e k n
+standing-tidy Other n e k = k
 
 recover-tidy : (es ps : List ℕ) (d : TagDecoder) → Tidy d → (s : List ℕ) → Tidy (tryRecover es ps d s .state)
-unfolding tryRecover endingOf
 recover-tidy es ps d k s = go (checkRecord10to12 es ps d (length s)) refl
   where
-    go : (c : Check) → checkRecord10to12 es ps d (length s) ≡ c → Tidy (searchOr ps (tableOf es ps) d s c .state)
+    go : (c : Check) → checkRecord10to12 es ps d (length s) ≡ c → Tidy (tryRecover es ps d s .state)
     go Pass e =
-        let p = endOfSearch ps (tableOf es ps) d s in
-        ending-tidy (d .position) (p .place) (p .state) (way-tidy es ps (passed12 es ps d (length s) e .shape) (way ps (tableOf es ps) s d) k)
-    go (Fail x) e = k
+        let i = firstPlace ps (tableOf es ps) d s in
+        rw (recovery-is-first es ps d s e)
+        (standing-tidy (standsAt ps (tableOf es ps) d s i) i (recordOn ps (tableOf es ps) d s (suc i) i) (on-tidy es ps (passed12 es ps d (length s) e .shape) d k s (suc i) i))
+    go (Fail x) e = unfold tryRecover in rw e k
 
 -- ---- any calls
 

@@ -13,6 +13,7 @@ use Rattle.table.specs.BenchTable.{benchEntries, benchParts}
 use Rattle.guarantees.specs.Calls.{Call, decoding, ending, recovering, history}
 use Rattle.guarantees.specs.History.{Started, startsOpen, parentsLeft, position}
 use Rattle.guarantees.specs.Promises.{atTheEnd}
+use Rattle.guarantees.specs.Skipped.{takenByEvents, skipped}
 
 -- the calls of a caller who lends all that is left each time, up to the end of input: the first n calls on the bytes s,
 -- of which each takes as many as this list says; latest first
@@ -39,6 +40,10 @@ bench = tableOf benchEntries benchParts
 abbrev seen : List Call → List Started × List ℕ × ℕ
 seen cs = (startsOpen bench (history benchEntries benchParts cs), parentsLeft benchParts bench (history benchEntries benchParts cs), position (history benchEntries benchParts cs))
 
+-- D1 up to its Amount, and then a recovery that passes over two bytes
+abbrev afterTwo : List Call
+afterTwo = recovering (0x00 ∷ 0x00 ∷ 0xA3 ∷ 0x80 ∷ []) ∷ lending (3 ∷ 2 ∷ 3 ∷ []) d1 []
+
 -- what is seen of these records, call by call
 pub record Seen : Type 0 where
   -- D1 after its Data, after the first End, and at the finish
@@ -54,8 +59,11 @@ pub record Seen : Type 0 where
   pub d5-data : seen (lending (3 ∷ []) d5 []) ≡ ([], 0xA1 ∷ 0x4E01 ∷ [], 3)
   pub d5-end : seen (lending (3 ∷ 0 ∷ []) d5 []) ≡ ([], 0x4E01 ∷ [], 3)
   pub d5-finish : seen (lending (3 ∷ 0 ∷ 0 ∷ 0 ∷ []) d5 []) ≡ ([], [], 3)
-  -- a recovery after the Amount of D1 that passes over two bytes: the open ends grow by two
-  pub recovered : seen (recovering (0x00 ∷ 0x00 ∷ 0xA3 ∷ 0x80 ∷ []) ∷ lending (3 ∷ 2 ∷ 3 ∷ []) d1 []) ≡ (record { id = 0xA1; offset = 3; end = Number 14 } ∷ record { id = 0x4E01; offset = 0; end = Number 14 } ∷ [], [], 10)
+  -- the open ends of D1 grow by the two bytes that are passed over
+  pub recovered : seen afterTwo ≡ (record { id = 0xA1; offset = 3; end = Number 14 } ∷ record { id = 0x4E01; offset = 0; end = Number 14 } ∷ [], [], 10)
+  -- of the 10 bytes up to there events took 8, and 2 were passed over
+  pub took : takenByEvents (history benchEntries benchParts afterTwo) ≡ 8
+  pub passed-over : skipped (history benchEntries benchParts afterTwo) ≡ 2
   -- a recovery on a fresh decoder settles
   pub implying : seen (recovering d5 ∷ []) ≡ ([], 0xA1 ∷ 0x4E01 ∷ [], 0)
   -- a place that settles and then fails (17) leaves its parents implied
@@ -77,6 +85,8 @@ seen-so = record {
   d5-end = refl;
   d5-finish = refl;
   recovered = refl;
+  took = refl;
+  passed-over = refl;
   implying = refl;
   implying-failed = refl;
   not-read = refl;

@@ -43,8 +43,8 @@ never t off s starts left p m z w f (answered (answer.Event e) n) k q = z (sym q
 never t off s starts left p m z w f (answered (answer.NeedMore missing) n) k q = z (sym q)
 never t off s starts left p m z w f (answered answer.Finished n) k q = z (sym q)
 never t off s starts left p m z w f (answered (answer.Refused r) n) k q = f (r .error) k q
-never t off s starts left p m z w f (searched search.Found n) k q = z (sym q)
-never t off s starts left p m z w f (searched search.NotFound n) k q = z (sym q)
+never t off s starts left p m z w f (searched (search.Found passed) n) k q = z (sym q)
+never t off s starts left p m z w f (searched (search.NotFound passed) n) k q = z (sym q)
 never t off s starts left p m z w f (searched (search.Refused r) n) k q = w (sym q ∙ k)
 never t off s starts left p m z w f silent k q = z (sym q)
 
@@ -55,8 +55,8 @@ full-at-19 t off s starts left p (answered (answer.Event e) n) k q = absurd (ome
 full-at-19 t off s starts left p (answered (answer.NeedMore missing) n) k q = absurd (omega arith)
 full-at-19 t off s starts left p (answered answer.Finished n) k q = absurd (omega arith)
 full-at-19 t off s starts left p (answered (answer.Refused r) n) k q = k .at-19 q
-full-at-19 t off s starts left p (searched search.Found n) k q = absurd (omega arith)
-full-at-19 t off s starts left p (searched search.NotFound n) k q = absurd (omega arith)
+full-at-19 t off s starts left p (searched (search.Found passed) n) k q = absurd (omega arith)
+full-at-19 t off s starts left p (searched (search.NotFound passed) n) k q = absurd (omega arith)
 full-at-19 t off s starts left p (searched (search.Refused r) n) k q = absurd (omega arith)
 full-at-19 t off s starts left p silent k q = absurd (omega arith)
 

@@ -23,7 +23,8 @@ use Rattle.decoder_rules.specs.declared.types.Event.the-variants as event
 use Rattle.decoder_rules.specs.declared.types.Note.{Note}
 use Rattle.decoder_rules.specs.declared.types.Note.the-variants.{NoNote, Settle}
 use Rattle.guarantees.specs.Calls.{Call, lent, Response, answered, searched, silent, history, Lent}
-use Rattle.guarantees.specs.Settling.{impliedBy, settleHeader, settleAt, seenNote, hasSettled, seenParents}
+use Rattle.decoder_rules.specs.FirstPlace.{settleHeader, settleAt}
+use Rattle.guarantees.specs.Settling.{impliedBy, seenNote, hasSettled, seenParents}
 use Rattle.guarantees.specs.History.{Started, parentsLeft}
 use Rattle.guarantees.specs.Promises.{Runs, lastResponse, openAt, leftAt, positionAt, answersLoose, onlyLoose, EndMatches}
 use Rattle.guarantees.proofs.Decided.{Heads}

@@ -1,27 +1,26 @@
 -- The settling note of a call on a record that has not settled is the one that a caller can tell from the bytes lent
 -- and the answer alone. Assumes nothing.
-use Prim.Native.Nat.{ℕ, suc, _+_, _-_}
+use Prim.Native.Nat.{ℕ, suc}
 use mathlib.Core.Path.{_≡_, refl, sym, ap, _∙_}
-use mathlib.Core.Bool.{Bool, true, false, cond, not, _&&_, _||_, true≢false, false≢true}
-use mathlib.Core.List.{List, [], _∷_}
+use mathlib.Core.Bool.{true, false, cond, _||_, false≢true}
+use mathlib.Core.List.{List}
 use native.Mathlib.Omega.{arith}
 use lib.ListN.{length}
-use Rattle.table.specs.Check.{onlyIds}
 use Rattle.table.specs.Shape.{goodShape}
-use Rattle.table.specs.Table.{Entry, tableOf, pathOf, isTyped}
-use Rattle.tag_parse.specs.Header.{readTagId, afterId, readHeader}
+use Rattle.table.specs.Table.{Entry, tableOf}
+use Rattle.tag_parse.specs.Header.{readHeader}
 use Rattle.tag_parse.specs.declared.types.ParseError.{ParseError}
 use Rattle.tag_parse.specs.declared.types.ParseError.the-variants as parse
 use Rattle.tag_parse.specs.declared.types.ReadHeader.{ReadHeader}
-use Rattle.tag_parse.specs.declared.types.ReadHeader.the-variants as header
 use Rattle.tag_parse.specs.declared.types.TagHeader.{TagHeader}
 use Rattle.decoder_rules.specs.Record.{withSettings}
 use Rattle.decoder_rules.specs.Numbers.{errorNumber, parseError, answerRefusal}
-use Rattle.decoder_rules.specs.OneCall.{checkRecord10to12, step6, step7, isSettle, noted}
+use Rattle.decoder_rules.specs.OneCall.{checkRecord10to12, isSettle}
 use Rattle.decoder_rules.specs.Deciding.{decide}
 use Rattle.decoder_rules.specs.Moving.{move, apply, decode}
 use Rattle.decoder_rules.specs.EndOfInput.{decodeEof}
-use Rattle.decoder_rules.specs.Recovery.{endOfSearch, endingAt, ending, searchOr, tryRecover}
+use Rattle.decoder_rules.specs.Recovery.{tryRecover}
+use Rattle.decoder_rules.specs.FirstPlace.{settleHeader, settleAt, settleBefore, recordOn, Standing, Incomplete, Valid, Other, standsAt, firstPlace, recoveredAt}
 use Rattle.decoder_rules.specs.Settings.{limitedTo}
 use Rattle.decoder_rules.specs.declared.types.Action.{Action}
 use Rattle.decoder_rules.specs.declared.types.Action.the-variants as act
@@ -32,23 +31,23 @@ use Rattle.decoder_rules.specs.declared.types.Check.the-variants.{Pass, Fail}
 use Rattle.decoder_rules.specs.declared.types.Decision.{Decision}
 use Rattle.decoder_rules.specs.declared.types.Decoded.{Decoded}
 use Rattle.decoder_rules.specs.declared.types.Note.{Note}
-use Rattle.decoder_rules.specs.declared.types.Note.the-variants.{NoNote, Settle}
+use Rattle.decoder_rules.specs.declared.types.Note.the-variants.{NoNote}
 use Rattle.decoder_rules.specs.declared.types.Optional.{Optional}
 use Rattle.decoder_rules.specs.declared.types.Optional.the-variants.{Nothing, Number}
-use Rattle.decoder_rules.specs.declared.types.Place.{Place}
-use Rattle.decoder_rules.specs.declared.types.Place.the-variants.{Stop, Found, On}
-use Rattle.decoder_rules.specs.declared.types.PlaceResult.{PlaceResult}
+use Rattle.decoder_rules.specs.declared.types.Recovered.{Recovered}
 use Rattle.decoder_rules.specs.declared.types.TagDecoder.{TagDecoder}
 use Rattle.decoder_rules.proofs.GoodState.{GoodState}
 use Rattle.decoder_rules.proofs.Exits as exit
 use Rattle.decoder_rules.proofs.Exits.{Closing, HeaderExit, Exit, exits, finished-unlent}
 use Rattle.decoder_rules.proofs.EndExits as end
 use Rattle.decoder_rules.proofs.EndExits.{EndExit, end-keeps, EofExit, isQuiet, eof-exits}
-use Rattle.decoder_rules.proofs.MoveLaws.{withNote, noted-position, noted-settled, decode-settled}
-use Rattle.basics.proofs.Bools.{pick, or-none}
+use Rattle.decoder_rules.proofs.MoveLaws.{withNote, noted-settled, decode-settled}
+use Rattle.decoder_rules.proofs.Places.{unsettled-step7, untyped-settles-none, settle-none}
+use Rattle.decoder_rules.proofs.FirstPlace.{unsettled-before, recovery-is-first}
+use Rattle.basics.proofs.Bools.{or-none}
 use Rattle.guarantees.specs.Calls.{Call, decoding, ending as at-end, recovering, allow, limit, lent, searched, responseTo, next}
-use Rattle.guarantees.specs.Settling.{orElse, settleHeader, settleAt, settleWithin, comesUnread, searchNote, seenNote}
-use Rattle.guarantees.proofs.Notes.{readNote, placeNote, Way, no-byte, ends-here, goes-on, way, gone-position, gone-settled, way-later, searchNoteOr, noteOf}
+use Rattle.guarantees.specs.Settling.{comesUnread, searchNote, seenNote}
+use Rattle.guarantees.proofs.Notes.{searchNoteOr, noteOf}
 use Rattle.guarantees.proofs.Decided.{only-far}
 use Rattle.guarantees.proofs.Recovery.{recover-keeps}
 
@@ -100,21 +99,6 @@ header-late (exit.payload-refused n x has l e) = parse-read x
 header-late (exit.holds n v has l e) = refl
 
 -- ---- the note of a decode call on a record that has not settled
-
-settle-none : (t : List Entry) (s : List ℕ) → length s ≡ 0 → settleAt t s ≡ NoNote
-unfolding settleAt readHeader afterId readTagId
-settle-none t [] e = refl
-settle-none t (b ∷ s) e = absurd (omega arith)
-
-unsettled-step7 : (t : List Entry) (d : TagDecoder) (h : TagHeader) → d .settled ≡ false → step7 t d h ≡ settleHeader t (header.Header h)
-unsettled-step7 t d h u = ap (λ (b : Bool). cond (not b && isTyped (h .kind) && onlyIds (pathOf t (h .id))) (Settle (h .path)) NoNote) u
-
-untyped-settles-none : (t : List Entry) (d : TagDecoder) (h : TagHeader) → step6 d h ≡ false → settleHeader t (header.Header h) ≡ NoNote
-untyped-settles-none t d h e = go (isTyped (h .kind)) (d .settings .«allow_ids») e
-  where
-    go : (a b : Bool) → (a || b) ≡ false → cond (a && onlyIds (pathOf t (h .id))) (Settle (h .path)) NoNote ≡ NoNote
-    go true b f = absurd (true≢false f)
-    go false b f = refl
 
 -- nothing has settled, so nothing is open and nothing waits
 pub record Began (d : TagDecoder) : Type 0 where
@@ -176,73 +160,24 @@ module _ (es ps : List ℕ) (shape : goodShape es ps ≡ true) (d : TagDecoder) 
 
 -- ---- a recovery
 
-module _ (t : List Entry) where
-  -- the note of a place on a record that has not settled
-  place-seen : (d : TagDecoder) (s : List ℕ) → d .settled ≡ false → placeNote t d s ≡ settleAt t s
-  unfolding placeNote settleAt
-  place-seen d s u = go (readHeader t s)
-    where
-      go : (r : ReadHeader) → readNote t d r ≡ settleHeader t r
-      go (header.NeedMore missing) = refl
-      go (header.Refused x) = refl
-      go (header.Header h) =
-          pick (λ (n : Note). n ≡ settleHeader t (header.Header h)) (step6 d h) (step7 t d h) NoNote (λ f. unsettled-step7 t d h u)
-          (λ f. sym (untyped-settles-none t d h f))
-
-  -- the first of one place, and of one place more
-  within-here : (m : ℕ) (s : List ℕ) → m ≡ 0 → settleWithin t m s ≡ settleAt t s
-  unfolding settleWithin
-  within-here m s q = rw q
-
-  within-next : (m n b : ℕ) (s : List ℕ) → m ≡ suc n → settleWithin t m (b ∷ s) ≡ orElse (settleAt t (b ∷ s)) (settleWithin t n s)
-  unfolding settleWithin
-  within-next m n b s q = rw q
-
-neither : (a b : Bool) → a ≡ false → b ≡ false → (a || b) ≡ false
-neither a b p q = rw (p, q)
-
-or-else-same : (n x y : Note) → (isSettle n ≡ false → x ≡ y) → orElse n x ≡ orElse n y
-or-else-same NoNote x y h = h refl
-or-else-same (Settle path) x y h = refl
-
-module _ {ps : List ℕ} {t : List Entry} where
-  -- the first note of a search is the first that settles of the places that it read
-  way-seen : {d : TagDecoder} {s : List ℕ} {n : Note} {p : PlaceResult} → Way ps t d s n p → d .settled ≡ false
-      → n ≡ settleWithin t (p .state .position - d .position) s
-  way-seen (no-byte d) u = sym (within-here t (d .position - d .position) [] (omega arith) ∙ settle-none t [] refl)
-  way-seen (ends-here d b s q) u =
-      let e = noted ps d (placeNote t d (b ∷ s)) in
-      let none : e .position - d .position ≡ 0 = omega (arith, noted-position ps d (placeNote t d (b ∷ s))) in
-      place-seen t d (b ∷ s) u ∙ sym (within-here t (e .position - d .position) (b ∷ s) none)
-  way-seen (goes-on d b s {later} {p} w) u =
-      let n = placeNote t d (b ∷ s) in
-      let k = p .state .position - (d .position + 1) in
-      let place = gone-position ps d n in
-      let more : p .state .position - d .position ≡ suc k = omega (arith, way-later w) in
-      let rest : isSettle n ≡ false → later ≡ settleWithin t k s =
-      λ q. way-seen w (gone-settled ps d n ∙ neither (d .settled) (isSettle n) u q) ∙ ap (λ (i : ℕ). settleWithin t (p .state .position - i) s) place in
-      or-else-same n later (settleWithin t k s) rest
-      ∙ ap (λ (x : Note). orElse x (settleWithin t k s)) (place-seen t d (b ∷ s) u)
-      ∙ sym (within-next t (p .state .position - d .position) k b s more)
-
 module _ (es ps : List ℕ) (d : TagDecoder) (s : List ℕ) (u : d .settled ≡ false) where
-  ending-seen : (p : ℕ) (e : TagDecoder) (q : Place)
-      → searchNote (tableOf es ps) s (endingAt p q e .answer) (endingAt p q e .taken) ≡ settleWithin (tableOf es ps) (e .position - p) s
-  ending-seen p e Stop = refl
-  ending-seen p e Found = refl
-  ending-seen p e On = refl
-
-  search-seen : (c : Check) → searchNoteOr ps (tableOf es ps) d s c ≡ searchNote (tableOf es ps) s (searchOr ps (tableOf es ps) d s c .answer) (searchOr ps (tableOf es ps) d s c .taken)
-  unfolding ending
-  search-seen (Fail e) = refl
-  search-seen Pass =
-      let p = endOfSearch ps (tableOf es ps) d s in
-      way-seen (way ps (tableOf es ps) s d) u ∙ sym (ending-seen (d .position) (p .state) (p .place))
+  standing-seen : (x : Standing) (n : ℕ) (e : TagDecoder) → searchNote (tableOf es ps) s (recoveredAt x n e .answer) ≡ settleBefore (tableOf es ps) (suc n) s
+  standing-seen Incomplete n e = refl
+  standing-seen Valid n e = refl
+  standing-seen Other n e = refl
 
   recover-seen : searchNoteOr ps (tableOf es ps) d s (checkRecord10to12 es ps d (length s))
       ≡ seenNote (tableOf es ps) s (searched (tryRecover es ps d s .answer) (tryRecover es ps d s .taken))
-  unfolding tryRecover
-  recover-seen = search-seen (checkRecord10to12 es ps d (length s))
+  recover-seen = go (checkRecord10to12 es ps d (length s)) refl
+    where
+      go : (c : Check) → checkRecord10to12 es ps d (length s) ≡ c → searchNoteOr ps (tableOf es ps) d s c ≡ searchNote (tableOf es ps) s (tryRecover es ps d s .answer)
+      go Pass e =
+          let i = firstPlace ps (tableOf es ps) d s in
+          unsettled-before (tableOf es ps) d s (suc i) u
+          ∙ sym
+          (ap (λ (r : Recovered). searchNote (tableOf es ps) s (r .answer)) (recovery-is-first es ps d s e)
+          ∙ standing-seen (standsAt ps (tableOf es ps) d s i) i (recordOn ps (tableOf es ps) d s (suc i) i))
+      go (Fail x) e = unfold tryRecover in rw e
 
 -- ---- what has settled: the record says what the notes say
 

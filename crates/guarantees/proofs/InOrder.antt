@@ -77,7 +77,7 @@ module _ (es ps : List ℕ) (d : TagDecoder) where
   takes-lent : (c : Call) → Octets (lent c) → takenIn (responseTo es ps d c) ≤ length (lent c)
   takes-lent (decoding s) byte = decode-facts es ps d s byte .within
   takes-lent (ending s) byte = eof-facts es ps d s byte .within
-  takes-lent (recovering s) byte = recovery-moves es ps d s byte .within
+  takes-lent (recovering s) byte = recovery-moves es ps d s .within
   takes-lent (allow ids hierarchy oversized) byte = omega arith
   takes-lent (limit m) byte = omega arith
 

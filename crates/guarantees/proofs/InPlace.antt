@@ -68,7 +68,7 @@ use Rattle.guarantees.specs.Appearing.{emptyValue, emptyEvent}
 use Rattle.guarantees.proofs.AnyCalls.{good-shape}
 use Rattle.guarantees.proofs.Decided.{is-master}
 use Rattle.guarantees.proofs.Ends.{every-reversed, unknown}
-use Rattle.guarantees.proofs.Notes.{settled-step7}
+use Rattle.decoder_rules.proofs.Places.{settled-step7}
 
 -- ---- the header: an ID and one octet of size
 

@@ -27,5 +27,6 @@ pub mod Demand3
 pub mod InPlace
 pub mod Appears
 pub mod EmptyPlaces
+pub mod Skipped
 pub mod Needed
 pub mod Computing

@@ -68,8 +68,8 @@ nested-told t s starts left p (answered (answer.Event (event.Data y o v)) n) f h
 nested-told t s starts left p (answered (answer.NeedMore missing) n) f h = h
 nested-told t s starts left p (answered answer.Finished n) f h = h
 nested-told t s starts left p (answered (answer.Refused r) n) f h = h
-nested-told t s starts left p (searched search.Found n) f h = nested-later n starts h
-nested-told t s starts left p (searched search.NotFound n) f h = h
+nested-told t s starts left p (searched (search.Found passed) n) f h = nested-later passed starts h
+nested-told t s starts left p (searched (search.NotFound passed) n) f h = h
 nested-told t s starts left p (searched (search.Refused r) n) f h = h
 nested-told t s starts left p silent f h = h
 

@@ -70,16 +70,16 @@ module _ (t : List Entry) (s : List ℕ) where
   afterAnswer answer.Finished l = l
   afterAnswer (answer.Refused r) l = l
 
-  -- a recovery that found a header passed over n bytes, by which every end grows
-  abbrev pub afterSearch : Search → ℕ → List Started → List Started
-  afterSearch search.Found n l = map (later n) l
-  afterSearch search.NotFound n l = l
-  afterSearch (search.Refused r) n l = l
+  -- where a recovery found a header, every end grows by the bytes that it passed over
+  abbrev pub afterSearch : Search → List Started → List Started
+  afterSearch (search.Found passed) l = map (later passed) l
+  afterSearch (search.NotFound passed) l = l
+  afterSearch (search.Refused r) l = l
 
   -- the Starts that are open after any call
   abbrev pub afterResponse : Response → List Started → List Started
   afterResponse (answered a n) l = afterAnswer a l
-  afterResponse (searched a n) l = afterSearch a n l
+  afterResponse (searched a n) l = afterSearch a l
   afterResponse silent l = l
 
 -- the Starts that are open after this history

@@ -5,4 +5,5 @@ pub mod Promises
 pub mod Results
 pub mod CutRecords
 pub mod Appearing
+pub mod Skipped
 pub mod Demand3

@@ -1,19 +1,15 @@
 -- The implied parents as a caller can tell them, from the bytes lent and the answers alone. Document 01, step 7: "if
 -- not yet settled and a typed ID's path is all IDs (or empty), the stack becomes those IDs".
-use Prim.Native.Nat.{ℕ, zero, suc}
-use mathlib.Core.Bool.{Bool, false, cond, _&&_, _||_}
+use Prim.Native.Nat.{ℕ, suc}
+use mathlib.Core.Bool.{Bool, false, cond, _||_}
 use mathlib.Core.List.{List, [], _∷_, map, reverse}
 use lib.Dec.{eqb}
-use lib.ListN.{drop}
-use Rattle.table.specs.Check.{onlyIds}
-use Rattle.table.specs.Table.{Entry, partsOf, partsIn, pathOf, isTyped}
+use Rattle.table.specs.Table.{Entry, partsOf, partsIn}
 use Rattle.spec_util.specs.declared.types.OpenTag.{OpenTag}
-use Rattle.tag_parse.specs.Header.{readHeader}
-use Rattle.tag_parse.specs.declared.types.ReadHeader.{ReadHeader}
-use Rattle.tag_parse.specs.declared.types.ReadHeader.the-variants as header
 use Rattle.decoder_rules.specs.Numbers.{answerRefusal}
 use Rattle.decoder_rules.specs.Record.{implied}
 use Rattle.decoder_rules.specs.OneCall.{isSettle}
+use Rattle.decoder_rules.specs.FirstPlace.{settleAt, settleBefore}
 use Rattle.decoder_rules.specs.declared.types.Note.{Note}
 use Rattle.decoder_rules.specs.declared.types.Note.the-variants.{NoNote, Settle}
 use Rattle.decoder_rules.specs.declared.types.Search.{Search}
@@ -25,40 +21,20 @@ unfoldable pub impliedBy : List ℕ → Note → List ℕ
 impliedBy ps NoNote = []
 impliedBy ps (Settle path) = map (λ (m : OpenTag). m .id) (reverse (map implied (partsIn (partsOf ps) path)))
 
--- the first of two notes that is one
-abbrev pub orElse : Note → Note → Note
-orElse NoNote later = later
-orElse (Settle path) later = Settle path
-
--- the note of what was read as a header, where nothing has settled yet
-abbrev pub settleHeader : List Entry → ReadHeader → Note
-settleHeader t (header.NeedMore missing) = NoNote
-settleHeader t (header.Refused e) = NoNote
-settleHeader t (header.Header h) = cond (isTyped (h .kind) && onlyIds (pathOf t (h .id))) (Settle (h .path)) NoNote
-
--- the note of the header at the front of these bytes, where nothing has settled yet
-unfoldable pub settleAt : List Entry → List ℕ → Note
-settleAt t s = settleHeader t (readHeader t s)
-
--- the first that settles of the n + 1 places from the front on
-unfoldable pub settleWithin : List Entry → ℕ → List ℕ → Note
-settleWithin t zero s = settleAt t s
-settleWithin t (suc n) s = orElse (settleAt t s) (settleWithin t n (drop 1 s))
-
 -- the refusal of this number comes before a byte is read: 12 and 13 do
 abbrev pub comesUnread : ℕ → Bool
 comesUnread n = eqb n 12 || eqb n 13
 
--- the note of a recovery that passed over n bytes: it read a header at n + 1 places
-abbrev pub searchNote : List Entry → List ℕ → Search → ℕ → Note
-searchNote t s search.Found n = settleWithin t n s
-searchNote t s search.NotFound n = settleWithin t n s
-searchNote t s (search.Refused r) n = NoNote
+-- the note of a recovery: where it passed over n bytes, it read a header at n + 1 places
+abbrev pub searchNote : List Entry → List ℕ → Search → Note
+searchNote t s (search.Found passed) = settleBefore t (suc passed) s
+searchNote t s (search.NotFound passed) = settleBefore t (suc passed) s
+searchNote t s (search.Refused r) = NoNote
 
 -- what a call on the bytes s that told this settled, where nothing had settled
 abbrev pub seenNote : List Entry → List ℕ → Response → Note
 seenNote t s (answered a n) = cond (comesUnread (answerRefusal a)) NoNote (settleAt t s)
-seenNote t s (searched a n) = searchNote t s a n
+seenNote t s (searched a n) = searchNote t s a
 seenNote t s silent = NoNote
 
 -- some call settled

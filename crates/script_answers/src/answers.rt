@@ -211,13 +211,21 @@ pub fn put_answer(answer: Answer, taken: usize, position: u64, out: &mut [u8]) -
     }
 }
 
+// Found or not found: what the call reached, and how many bytes it passed over.
+fn put_passed(letter: u8, passed: usize, taken: usize, position: u64, out: &mut [u8]) -> usize
+    ensures { λ r. ⌜ r ≤ length (now (out .entry)) ⌝ }
+{
+    let at = put_letter_reached(letter, taken, position, out);
+    put_named(b" passed=", passed as u64, out, at)
+}
+
 // The answer of a recovery: found, not found, or a refusal.
 pub fn put_search(answer: Search, taken: usize, position: u64, out: &mut [u8]) -> usize
     ensures { λ r. ⌜ r ≤ length (now (out .entry)) ⌝ }
 {
     match answer {
-        Search::Found => put_letter_reached(b'Y', taken, position, out),
-        Search::NotFound => put_letter_reached(b'Q', taken, position, out),
+        Search::Found { passed } => put_passed(b'Y', passed, taken, position, out),
+        Search::NotFound { passed } => put_passed(b'Q', passed, taken, position, out),
         Search::Refused(r) => put_refusal(r, out),
     }
 }

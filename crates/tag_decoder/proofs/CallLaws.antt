@@ -141,14 +141,14 @@ ending-answers start p {r = r} {A = A} e = by (p .place) e
 
 module _ (es ps : List ℕ) (d : TagDecoder) (s : List ℕ) where
   -- it holds of `try_recover`
-  pub recovery-moves : Octets s → Moved d (length s) (tryRecover es ps d s)
+  pub recovery-moves : Moved d (length s) (tryRecover es ps d s)
   unfolding tryRecover
-  recovery-moves byte = go (checkRecord10to12 es ps d (length s)) refl
+  recovery-moves = go (checkRecord10to12 es ps d (length s)) refl
     where
       go : (c : Check) → checkRecord10to12 es ps d (length s) ≡ c → Moved d (length s) (searchOr ps (tableOf es ps) d s c)
       go Pass e =
           let p = passed12 es ps d (length s) e in
-          ending-moved d (length s) _ (end-well es ps (p .shape) d s (p .good) byte (p .near))
+          ending-moved d (length s) _ (end-well es ps (p .shape) d s (p .good) (p .near))
       go (Fail x) e = record { within = omega arith; moves = omega arith }
 
   -- and a refusal of it changes nothing at all

@@ -7,17 +7,17 @@ ghost use lib.ListN.{length};
 ghost use Rattle.table.specs.Shape.{goodShape};
 ghost use Rattle.table.specs.Table.{tableOf};
 ghost use Rattle.decoder_rules.specs.OneCall.{goodState};
-ghost use Rattle.decoder_rules.specs.Recovery.{tryRecover, stepOn, judgedAt, headerAt, placeAt, endOfSearch, ending};
-ghost use Rattle.decoder_decide.specs.GoodViews.{GoodRecord, GoodHeader};
+ghost use Rattle.decoder_rules.specs.Recovery.{tryRecover, endOfSearch, ending};
 ghost use Rattle.decoder_rules.specs.Record.{farthest};
+ghost use Rattle.tag_decoder.specs.Passing.{mayEnd, NextPlace};
 use decoder_decide::decide::is_id_allowed;
 use decoder_decide::header::settling_note;
 use decoder_decide::whole::check_record_10_to_12;
 use decoder_decide::whole::valid_header_of;
-use decoder_move::answers::noted;
-use decoder_move::moves::at_position;
+use decoder_move::moves::settled_to;
 use decoder_move::moves::with_sizes_grown;
 use decoder_rules::types::Check;
+use decoder_rules::types::Note;
 use decoder_rules::types::Place;
 use decoder_rules::types::PlaceResult;
 use decoder_rules::types::Recovered;
@@ -26,92 +26,74 @@ use decoder_rules::types::Search;
 use decoder_rules::types::TagDecoder;
 use tag_parse::header::read_header;
 use tag_parse::types::ReadHeader;
-use tag_parse::types::TagHeader;
 
-// One byte on.
-fn step_on(d: TagDecoder) -> PlaceResult
-    requires { ⌜ d .position + 1 ≤ farthest ⌝ }
-    ensures { λ r. ⌜ r ≡ stepOn d ⌝ }
+// Whether what was read as a header may end the search: where it is not whole, or passes step 6.
+fn may_end(allow_ids: bool, read: ReadHeader) -> bool
+    ensures { λ r. ⌜ r ≡ mayEnd «allow_ids» read ⌝ }
 {
-    let next = d.position + 1;
-    PlaceResult {
-        place: Place::On,
-        state: at_position(d, next),
+    match read {
+        ReadHeader::NeedMore { .. } => true,
+        ReadHeader::Refused(_) => false,
+        ReadHeader::Header(h) => is_id_allowed(allow_ids, h),
     }
 }
 
-// Steps 8 and 9, where the record has the note.
-fn judged_at(entries: &[u64], parts: &[u64], d: TagDecoder, h: TagHeader) -> PlaceResult
-    requires { ⌜ GoodRecord d × GoodHeader (now entries) (now parts) h × (d .position + 1 ≤ farthest) ⌝ }
-    ensures { λ r. ⌜ r ≡ judgedAt (tableOf (now (entries .entry)) (now (parts .entry))) d h ⌝ }
+// The first place from this one on where the search may end; past the last byte, where there is none. The places before
+// it are passed over without a look at the record.
+fn next_place(entries: &[u64], parts: &[u64], allow_ids: bool, input: &[u8], from: usize) -> usize
+    requires { ⌜ from ≤ length (now input) ⌝ }
+    ensures { λ r. ⌜ NextPlace (tableOf (now (entries .entry)) (now (parts .entry))) «allow_ids» (now (input .entry)) from r ⌝ }
 {
-    match valid_header_of(entries, parts, d, h) {
-        Check::Pass => PlaceResult {
-            place: Place::Found,
-            state: d,
-        },
-        Check::Fail(_) => step_on(d),
+    let n = input.len();
+    let mut i = from;
+    while i < n {
+        let read = read_header(entries, parts, &input[i..]);
+        if may_end(allow_ids, read) {
+            return i;
+        }
+        i += 1;
     }
+    n
 }
 
-// Steps 6 to 9 on a header that was read.
-fn header_at(entries: &[u64], parts: &[u64], d: TagDecoder, h: TagHeader) -> PlaceResult
-    requires { ⌜ GoodRecord d × GoodHeader (now entries) (now parts) h × (d .position + 1 ≤ farthest) ⌝ }
-    ensures { λ r. ⌜ r ≡ headerAt (now (parts .entry)) (tableOf (now (entries .entry)) (now (parts .entry))) d h ⌝ }
-{
-    if !is_id_allowed(d.settings.allow_ids, h) {
-        return step_on(d);
-    }
-    let note = settling_note(parts, d.settled, h);
-    judged_at(entries, parts, noted(parts, d, note), h)
-}
-
-// One place, where a byte stands.
-fn place_at(entries: &[u64], parts: &[u64], d: TagDecoder, input: &[u8]) -> PlaceResult
-    requires { ⌜ GoodRecord d × (goodShape (now entries) (now parts) ≡ true) × (d .position + 1 ≤ farthest) ⌝ }
-    ensures { λ r. ⌜ r ≡ placeAt (now (parts .entry)) (tableOf (now (entries .entry)) (now (parts .entry))) d (now (input .entry)) ⌝ }
-{
-    match read_header(entries, parts, input) {
-        ReadHeader::NeedMore { .. } => PlaceResult {
-            place: Place::Stop,
-            state: d,
-        },
-        ReadHeader::Refused(_) => step_on(d),
-        ReadHeader::Header(h) => header_at(entries, parts, d, h),
-    }
-}
-
-// The place where the search ends.
+// The place where the search ends. The record stays where it is: its position is set and its note made in place, and only
+// where a header may end the search.
 fn end_of_search(entries: &[u64], parts: &[u64], d: TagDecoder, input: &[u8]) -> PlaceResult
     requires { ⌜ (goodState d ≡ true) × (goodShape (now entries) (now parts) ≡ true) × (d .position + length (now input) ≤ farthest) ⌝ }
     ensures { λ r. ⌜ r ≡ endOfSearch (now (parts .entry)) (tableOf (now (entries .entry)) (now (parts .entry))) d (now (input .entry)) ⌝ }
 {
     let n = input.len();
+    let start = d.position;
+    let allow_ids = d.settings.allow_ids;
     let mut e = d;
-    let mut i: usize = 0;
+    let mut i = next_place(entries, parts, allow_ids, input, 0);
     while i < n {
-        let p = place_at(entries, parts, e, &input[i..]);
-        let place = p.place;
-        match place {
-            Place::Stop => {
-                return p;
-            }
-            Place::Found => {
-                return p;
-            }
-            Place::On => {
-                e = p.state;
-            }
+        e.position = start + i as u64;
+        let ReadHeader::Header(h) = read_header(entries, parts, &input[i..]) else {
+            return PlaceResult {
+                place: Place::Stop,
+                state: e,
+            };
+        };
+        if let Note::Settle(path) = settling_note(parts, e.settled, h) {
+            e = settled_to(e, parts, path);
         }
-        i += 1;
+        if let Check::Pass = valid_header_of(entries, parts, e, h) {
+            return PlaceResult {
+                place: Place::Found,
+                state: e,
+            };
+        }
+        i = next_place(entries, parts, allow_ids, input, i + 1);
     }
+    e.position = start + n as u64;
     PlaceResult {
         place: Place::Stop,
         state: e,
     }
 }
 
-// Sizes grow by the bytes passed over where a header was found, and only there.
+// How many bytes were passed over, and the record; its sizes grow by them where a header was found, and only there.
 fn ending(start: u64, p: PlaceResult) -> Recovered
     requires { ⌜ (goodState (p .state) ≡ true) × (start ≤ p .state .position) ⌝ }
     ensures { λ r. ⌜ r ≡ ending start p ⌝ }
@@ -121,13 +103,17 @@ fn ending(start: u64, p: PlaceResult) -> Recovered
     let passed = end.position - start;
     if let Place::Found = place {
         return Recovered {
-            answer: Search::Found,
+            answer: Search::Found {
+                passed: passed as usize,
+            },
             taken: passed as usize,
             state: with_sizes_grown(end, passed),
         };
     }
     Recovered {
-        answer: Search::NotFound,
+        answer: Search::NotFound {
+            passed: passed as usize,
+        },
         taken: passed as usize,
         state: end,
     }

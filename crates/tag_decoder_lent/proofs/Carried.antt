@@ -5,10 +5,14 @@ use mathlib.Core.Path.{_≡_, sym, subst}
 use mathlib.Core.List.{List}
 use lib.ListN.{length}
 use Rattle.tools.specs.Bytes.{Octets}
+use Rattle.table.specs.Table.{tableOf}
+use Rattle.decoder_rules.specs.OneCall.{checkRecord10to12}
 use Rattle.decoder_rules.specs.Moving.{decode}
 use Rattle.decoder_rules.specs.EndOfInput.{decodeEof}
 use Rattle.decoder_rules.specs.Recovery.{tryRecover}
+use Rattle.decoder_rules.specs.FirstPlace.{standsAt, firstPlace}
 use Rattle.decoder_rules.specs.declared.types.Answer.the-variants as answer
+use Rattle.decoder_rules.specs.declared.types.Check.the-variants.{Pass}
 use Rattle.decoder_rules.specs.declared.types.Decoded.{Decoded}
 use Rattle.decoder_rules.specs.declared.types.Event.the-variants.{End}
 use Rattle.decoder_rules.specs.declared.types.Refusal.{Refusal}
@@ -16,6 +20,8 @@ use Rattle.decoder_rules.specs.declared.types.Search.the-variants as search
 use Rattle.decoder_rules.specs.declared.types.TagDecoder.{TagDecoder}
 use Rattle.tag_decoder.proofs.CallLaws as by-value
 use Rattle.decoder_rules.specs.declared.types.WaitingEnd.{WaitingEnd}
+use Rattle.decoder_rules.proofs.FirstPlace as first
+use Rattle.decoder_rules.proofs.FirstPlace.{Tells, PassesOver}
 use Rattle.decoder_rules.proofs.MoveLaws.{withNote}
 use Rattle.tag_decoder.proofs.CallLaws.{CallFacts}
 use Rattle.tag_decoder_lent.specs.Lent.{ReturnsAndLeaves, apart, recoveryApart}
@@ -49,11 +55,23 @@ module _ (es ps : List ℕ) (d : TagDecoder) (s : List ℕ) (byte : Octets s) {r
 -- ---- one recovery
 
 module _ (es ps : List ℕ) (d : TagDecoder) (s : List ℕ) {r : RecoveryReply} {e : TagDecoder} (l : ReturnsAndLeaves r e (recoveryApart (tryRecover es ps d s))) where
-  pub recovery-within : Octets s → r .taken ≤ length s
-  recovery-within byte = carried (λ r e. r .taken ≤ length s) l (by-value.recovery-moves es ps d s byte .within)
+  pub recovery-within : r .taken ≤ length s
+  recovery-within = carried (λ r e. r .taken ≤ length s) l (by-value.recovery-moves es ps d s .within)
 
-  pub recovery-moves : Octets s → e .position ≡ d .position + r .taken
-  recovery-moves byte = carried (λ r e. e .position ≡ d .position + r .taken) l (by-value.recovery-moves es ps d s byte .moves)
+  pub recovery-moves : e .position ≡ d .position + r .taken
+  recovery-moves = carried (λ r e. e .position ≡ d .position + r .taken) l (by-value.recovery-moves es ps d s .moves)
+
+  -- it passes over the bytes taken, at most those lent
+  pub recovery-passes-over : PassesOver (length s) (r .answer) (r .taken)
+  recovery-passes-over = carried (λ r e. PassesOver (length s) (r .answer) (r .taken)) l (first.recovery-passes-over es ps d s)
+
+  -- where it is not refused, they are the bytes before the first place where an incomplete or a valid header stands, and
+  -- it finds a header exactly where a valid one stands there
+  pub recovery-tells-first : checkRecord10to12 es ps d (length s) ≡ Pass → let i = firstPlace ps (tableOf es ps) d s in
+      Tells (standsAt ps (tableOf es ps) d s i) i (r .answer) (r .taken)
+  recovery-tells-first e =
+      let i = firstPlace ps (tableOf es ps) d s in
+      carried (λ r e. Tells (standsAt ps (tableOf es ps) d s i) i (r .answer) (r .taken)) l (first.recovery-tells-first es ps d s e)
 
   pub refused-recovery-changes-nothing : {x : Refusal} → r .answer ≡ search.Refused x → (r .taken ≡ 0) × (e ≡ d)
   refused-recovery-changes-nothing {x} = carried (λ r e. r .answer ≡ search.Refused x → (r .taken ≡ 0) × (e ≡ d)) l (by-value.refused-recovery-changes-nothing es ps d s)

@@ -21,7 +21,7 @@ abbrev others : List ℕ
 others = 0 ∷ 2 ∷ []
 
 other : (start : ℕ) (q : Place) (e : TagDecoder) → OneOf others (tagOf the-type q)
-    → record { answer = NotFound; taken = e .position - start; state = e } ≡ endingAt start q e
+    → record { answer = NotFound (e .position - start); taken = e .position - start; state = e } ≡ endingAt start q e
 other start Stop e h = refl
 other start Found e h = absurd (miss others 1 tt h)
 other start On e h = refl

@@ -30,7 +30,7 @@ ending-requires : tie.Need-ending-requires
 ending-requires c κs =
     let r = c .before .before .before in
     let p = passed r (c .before .enum-told .given .1) in
-    let w = subst (EndWell (r .before .before .before .before .args .d) _) (sym (c .end-of-search .ensures)) (end-well _ _ (p .shape) _ _ (p .good) (λ i. r .before .shared-slice-known3 .given i .fits) (p .near)) in
+    let w = subst (EndWell (r .before .before .before .before .args .d) _) (sym (c .end-of-search .ensures)) (end-well _ _ (p .shape) _ _ (p .good) (p .near)) in
     (is-good-state _ (w .good), w .later)
 
 enum-known-error : tie.Need-enum-known-error
