@@ -97,7 +97,7 @@ fn marked(rust: &str) -> Option<Expected> {
         ["LIMIT", "X", "11", _] => STATE,
         ["LIMIT", "X", "12", _] => LENGTH,
         ["LIMIT", "X", "19", _] => DEPTH,
-        ["HANGS", "Y" | "Q", _, _] => HANGS,
+        ["HANGS", "Y" | "Q", _, _, _] => HANGS,
         _ => return None,
     };
     Some(listed(kind, words[1..].join(" ")))

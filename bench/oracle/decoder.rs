@@ -180,7 +180,8 @@ impl Session {
     }
 
     fn recovered(&self, is_found: bool, passed: usize) -> String {
-        format!("{} {}", if is_found { "Y" } else { "Q" }, self.reached(passed))
+        let letter = if is_found { "Y" } else { "Q" };
+        format!("{letter} {} passed={passed}", self.reached(passed))
     }
 }
 

@@ -1,12 +1,13 @@
 //! Usage: speed [SECONDS [PART..]]   or   speed once SIDE INPUT COUNT
 //! Measures our decoder, text check and number routines beside the Rust's, SECONDS on each row (0.4 if not given), and
-//! prints tables. PART is one of streams, growth, texts, numbers. `once` decodes one input COUNT times on one side, for
+//! prints tables. PART is one of streams, growth, recovery, texts, numbers. `once` decodes one input COUNT times on one side, for
 //! a profiler.
 
 mod clock;
 mod inputs;
 mod numbers;
 mod ours;
+mod recovery;
 mod rust_side;
 mod seen;
 mod streams;
@@ -30,6 +31,9 @@ fn main() {
     }
     if wanted("growth") {
         streams::report_growth(patience);
+    }
+    if wanted("recovery") {
+        recovery::report(patience);
     }
     if wanted("texts") {
         texts::report(patience);

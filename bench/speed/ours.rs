@@ -14,6 +14,22 @@ extern "C" {
         chunk: usize,
         out: *mut [u64; 3],
     ) -> u64;
+    fn bench_recover(
+        entries: *const u64,
+        entries_len: usize,
+        parts: *const u64,
+        parts_len: usize,
+        input: *const u8,
+        input_len: usize,
+    ) -> u64;
+    fn bench_read_headers(
+        entries: *const u64,
+        entries_len: usize,
+        parts: *const u64,
+        parts_len: usize,
+        input: *const u8,
+        input_len: usize,
+    ) -> u64;
     fn bench_is_utf8(text: *const u8, len: usize) -> u64;
     fn ebml_read_vint(buffer: *const u8, len: usize, out: *mut u8, out_len: usize) -> u64;
     fn ebml_read_signed_vint(buffer: *const u8, len: usize, out: *mut u8, out_len: usize) -> u64;
@@ -47,6 +63,24 @@ pub fn decode(table: &Words, stream: &[u8], chunk: usize) -> Seen {
         last,
         position,
     }
+}
+
+type OverBytes = unsafe extern "C" fn(*const u64, usize, *const u64, usize, *const u8, usize) -> u64;
+
+fn over(call: OverBytes, table: &Words, input: &[u8]) -> usize {
+    let (entries, parts) = (&table.entries, &table.parts);
+    let (of_entries, of_parts) = (entries.as_ptr(), parts.as_ptr());
+    (unsafe { call(of_entries, entries.len(), of_parts, parts.len(), input.as_ptr(), input.len()) }) as usize
+}
+
+/// The bytes that a recovery from fresh passes over.
+pub fn recover(table: &Words, input: &[u8]) -> usize {
+    over(bench_recover, table, input)
+}
+
+/// At how many of the bytes a header reads.
+pub fn read_headers(table: &Words, input: &[u8]) -> usize {
+    over(bench_read_headers, table, input)
 }
 
 pub fn is_utf8(text: &[u8]) -> bool {

@@ -114,6 +114,14 @@ pub fn decode<T: Table>(stream: &[u8], chunk: usize, mut buffer: BytesMut) -> Se
     seen
 }
 
+/// The bytes that a recovery from fresh passes over.
+pub fn recover<T: Table>(mut buffer: BytesMut) -> usize {
+    let before = buffer.len();
+    let mut decoder = TagDecoder::<Tag<T>>::new(&[]);
+    decoder.try_recover(&mut buffer);
+    before - buffer.len()
+}
+
 fn end<T: Table>(decoder: &mut TagDecoder<Tag<T>>, buffer: &mut BytesMut) -> Answer<T> {
     decoder.decode_eof(buffer)
 }

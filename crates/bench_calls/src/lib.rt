@@ -2,5 +2,6 @@
 // than a caller here needs.
 
 pub mod lines;
+pub mod recovery;
 pub mod seen;
 pub mod speed;
