@@ -3,7 +3,7 @@
 use Prim.Native.Nat.{ℕ, zero, suc, _+_, _<_}
 use mathlib.Core.Path.{_≡_, refl, ap, _∙_}
 use mathlib.Core.Bool.{Bool, true, false, _&&_, _||_, true≢false, and-eq-true-iff}
-use mathlib.Core.List.{List, [], _∷_, _++_, map, List·Memᴰ, List·Memᴰ·head, List·Memᴰ·tail}
+use mathlib.Core.List.{List, [], _∷_, _++_, map, reverse, reverse-cons, List·Memᴰ, List·Memᴰ·head, List·Memᴰ·tail}
 use native.Mathlib.Nat.{add-zero, zero-add, add-suc, suc-add}
 use native.Mathlib.Omega.{arith}
 use lib.ListN.{length, getD, take, drop}
@@ -109,3 +109,17 @@ module _ {A : Type 0} (test : A → Bool) where
   unfolding every
   every-other other h [] p = refl
   every-other other h (a ∷ l) p = let b = both (test a) (every test l) p in and-both (h a (b .left)) (every-other other h l (b .right))
+
+  -- what passes from the front passes from the back
+  pub every-reversed : (l : List A) → every test l ≡ true → every test (reverse l) ≡ true
+  unfolding every
+  every-reversed [] e = refl
+  every-reversed (a ∷ l) e =
+      let b = both (test a) (every test l) e in
+      rw (reverse-cons a l) (every-append (reverse l) (a ∷ []) (every-reversed l (b .right)) (and-both (b .left) refl))
+
+  -- the last of a list
+  pub every-last : (l : List A) (a : A) → every test (l ++ (a ∷ [])) ≡ true → test a ≡ true
+  unfolding every
+  every-last [] a e = both (test a) true e .left
+  every-last (b ∷ l) a e = every-last l a (both (test b) (every test (l ++ (a ∷ []))) e .right)

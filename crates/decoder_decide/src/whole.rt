@@ -12,6 +12,7 @@ ghost use Rattle.decoder_decide.specs.Bounds.{longestHeader};
 use crate::checks::check_10_to_12;
 use crate::closing::all_masters;
 use crate::header::valid_header;
+use decoder_look::summary::good_ends;
 use decoder_look::summary::summarize;
 use decoder_rules::types::Check;
 use decoder_rules::types::TagDecoder;
@@ -24,7 +25,8 @@ pub fn check_record_10_to_12(entries: &[u64], parts: &[u64], d: TagDecoder, n: u
 {
     let mut ids = [0u64; MOST_OPEN];
     let mut knowns = [false; MOST_OPEN];
-    let summary = summarize(d, &mut ids, &mut knowns);
+    let ends = d.waiting_count == 0 || good_ends(d);
+    let summary = summarize(d, ends, &mut ids, &mut knowns);
     check_10_to_12(entries, parts, summary.is_state_good, d.position, n)
 }
 
@@ -36,7 +38,7 @@ pub fn valid_header_of(entries: &[u64], parts: &[u64], d: TagDecoder, h: TagHead
 {
     let mut ids = [0u64; MOST_OPEN];
     let mut knowns = [false; MOST_OPEN];
-    let summary = summarize(d, &mut ids, &mut knowns);
+    let summary = summarize(d, true, &mut ids, &mut knowns);
     let view = summary.view;
     valid_header(entries, parts, view, &ids, &knowns, h)
 }
@@ -49,6 +51,6 @@ pub fn all_masters_of(entries: &[u64], parts: &[u64], d: TagDecoder) -> bool
     let mut ids = [0u64; MOST_OPEN];
     let mut knowns = [false; MOST_OPEN];
     let count = d.open_count;
-    let summary = summarize(d, &mut ids, &mut knowns);
+    let summary = summarize(d, true, &mut ids, &mut knowns);
     all_masters(entries, parts, &ids, 0, count)
 }

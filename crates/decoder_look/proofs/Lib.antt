@@ -2,3 +2,4 @@ pub mod Shown
 pub mod LeastEnd
 pub mod OnePass
 pub mod Unique
+pub mod GoodEnds

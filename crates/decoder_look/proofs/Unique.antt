@@ -25,7 +25,7 @@ pub first-cut-one : (κs : Lfts 0) (a : Dens κs first-cut-kinds.ps) → OneAnsw
 first-cut-one κs a = one-answer (λ r e p. p)
 
 -- the answer and both kinds of words
-pub summarize-one : (κs : Lfts 2) (a : Dens κs summarize-kinds.ps) → OneAnswer {A = Summary × List ℕ × List Bool} (summarize.Post κs a) (λ r e. (r, now (e .1 .0), now (e .1 .1 .0)))
+pub summarize-one : (κs : Lfts 2) (a : Dens κs summarize-kinds.ps) → OneAnswer {A = Summary × List ℕ × List Bool} (summarize.Post κs a) (λ r e. (r, now (e .1 .1 .0), now (e .1 .1 .1 .0)))
 summarize-one κs a =
     one-answer
     (λ r e p. ap₂ (λ (k : Summary) (w : List ℕ × List Bool). (k, w .0, w .1)) (p .0) (ap₂ (λ (i : List ℕ) (k : List Bool). (i, k)) (p .1 .ids-left) (p .1 .knowns-left)))

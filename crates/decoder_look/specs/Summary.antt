@@ -1,14 +1,16 @@
 -- What helpers' contracts use: what the tests of a call ask of the record, and the words in which its open masters are
 -- lent to them.
 use Prim.Native.Nat.{ℕ, _-_, _^_, min}
-use mathlib.Core.Bool.{Bool, cond}
+use mathlib.Core.Bool.{Bool, cond, _&&_}
 use mathlib.Core.List.{List, [], _∷_, _++_, map}
 use mathlib.Core.Path.{_≡_}
+use lib.Dec.{leb}
 use lib.ListN.{length, drop}
+use Rattle.basics.specs.Lists.{every}
 use Rattle.spec_util.specs.Walk.{mostOpen, ShownIds, Shown}
 use Rattle.spec_util.specs.declared.types.OpenTag.{OpenTag}
-use Rattle.decoder_rules.specs.Record.{opens, endOf}
-use Rattle.decoder_rules.specs.OneCall.{goodState, step3}
+use Rattle.decoder_rules.specs.Record.{farthest, opens, endOf}
+use Rattle.decoder_rules.specs.OneCall.{goodOpen, goodState, step3}
 use Rattle.decoder_rules.specs.declared.types.TagDecoder.{TagDecoder}
 use Rattle.decoder_look.specs.declared.summary.Summary.{Summary}
 use Rattle.decoder_look.specs.declared.summary.HeaderView.{HeaderView}
@@ -35,6 +37,17 @@ headerView d = record {
   count = d .«open_count»;
   «least_end» = leastEnd (opens d);
 }
+
+-- whether the state is good, where the Ends that wait were found good or not
+unfoldable pub goodStateWith : Bool → TagDecoder → Bool
+goodStateWith ends d =
+    leb (d .«open_count») mostOpen && leb (d .«waiting_count») mostOpen && leb (d .position) farthest
+    && (every (goodOpen (d .position)) (opens d) && ends)
+
+-- what steps 1 to 11 ask of the record, where the Ends that wait were found good or not
+abbrev pub summaryWith : Bool → TagDecoder → Summary
+summaryWith ends d =
+    record { «is_state_good» = goodStateWith ends d; finished = d .finished; «waiting_count» = d .«waiting_count»; «first_full» = step3 d; view = headerView d }
 
 -- what steps 1 to 11 ask of the record
 abbrev pub summary : TagDecoder → Summary

@@ -6,10 +6,11 @@ ghost use mathlib.Core.Path.{_≡_};
 ghost use Prim.Native.Nat.{min};
 ghost use lib.Dec.{leb};
 ghost use lib.ListN.{length};
-ghost use Rattle.decoder_rules.specs.Record.{farthest, opens};
-ghost use Rattle.decoder_rules.specs.OneCall.{goodOpen, isFull};
+ghost use Rattle.basics.specs.Lists.{every};
+ghost use Rattle.decoder_rules.specs.Record.{farthest, opens, waits};
+ghost use Rattle.decoder_rules.specs.OneCall.{goodOpen, goodEnd, isFull};
 ghost use Rattle.spec_util.specs.Walk.{mostOpen};
-ghost use Rattle.decoder_look.specs.Summary.{shownEnd, summary, ShownInFront};
+ghost use Rattle.decoder_look.specs.Summary.{shownEnd, summaryWith, ShownInFront};
 use crate::places::is_full;
 use decoder_rules::types::FARTHEST;
 use decoder_rules::types::SIZE_LIMIT;
@@ -48,6 +49,9 @@ fn good_open(position: u64, m: OpenTag) -> bool
     if position < m.data_start {
         return false;
     }
+    if position < m.count {
+        return false;
+    }
     if !m.known {
         return true;
     }
@@ -67,9 +71,27 @@ fn good_with(sound: bool, position: u64, m: OpenTag) -> bool
     false
 }
 
-// What refusal 11 asks in all.
-fn is_state_good(position: u64, open: usize, waiting: usize, sound: bool) -> bool
-    ensures { λ r. ⌜ r ≡ (leb «open» mostOpen && leb waiting mostOpen && leb position farthest && sound) ⌝ }
+// What refusal 11 asks of every End that waits: no count beyond the position. It stands apart from `summarize`, so that a
+// call on a record without one makes no copy for it.
+pub fn good_ends(d: TagDecoder) -> bool
+    ensures { λ r. ⌜ r ≡ every (goodEnd (d .position)) (waits d) ⌝ }
+{
+    let position = d.position;
+    let n = at_most_32(d.waiting_count);
+    let mut i: usize = 0;
+    while i < n {
+        let end = d.waiting[i];
+        if position < end.count {
+            return false;
+        }
+        i += 1;
+    }
+    true
+}
+
+// What refusal 11 asks in all, where the masters were found good or not, and so the Ends.
+fn is_state_good(position: u64, open: usize, waiting: usize, sound: bool, ends: bool) -> bool
+    ensures { λ r. ⌜ r ≡ (leb «open» mostOpen && leb waiting mostOpen && leb position farthest && (sound && ends)) ⌝ }
 {
     if MOST_OPEN < open {
         return false;
@@ -80,7 +102,10 @@ fn is_state_good(position: u64, open: usize, waiting: usize, sound: bool) -> boo
     if FARTHEST < position {
         return false;
     }
-    sound
+    if sound {
+        return ends;
+    }
+    false
 }
 
 // The index of the outermost full master, where i is that of one more, below those looked at.
@@ -118,11 +143,12 @@ fn least_end_with(least: u64, m: OpenTag) -> u64
     least
 }
 
-// What the tests of a call ask of the record, with its open masters in front of the lent words, which stay as they were
-// past them. It goes from the top down, so that the last that is found full is the outermost.
-pub fn summarize(d: TagDecoder, ids: &mut [u64], knowns: &mut [bool]) -> Summary
+// What the tests of a call ask of the record, whose waiting Ends were found good or not, with its open masters in front
+// of the lent words, which stay as they were past them. It goes from the top down, so that the last that is found full
+// is the outermost.
+pub fn summarize(d: TagDecoder, ends: bool, ids: &mut [u64], knowns: &mut [bool]) -> Summary
     requires { ⌜ (length (now ids) ≡ mostOpen) × (length (now knowns) ≡ mostOpen) ⌝ }
-    ensures { λ r. ⌜ (r ≡ summary d) × ShownInFront (now (ids .entry)) (now (ids .exit)) (now (knowns .entry)) (now (knowns .exit)) (min (d .«open_count») mostOpen) (opens d) ⌝ }
+    ensures { λ r. ⌜ (r ≡ summaryWith ends d) × ShownInFront (now (ids .entry)) (now (ids .exit)) (now (knowns .entry)) (now (knowns .exit)) (min (d .«open_count») mostOpen) (opens d) ⌝ }
 {
     let position = d.position;
     let mut sound = true;
@@ -147,7 +173,7 @@ pub fn summarize(d: TagDecoder, ids: &mut [u64], knowns: &mut [bool]) -> Summary
         least_end,
     };
     Summary {
-        is_state_good: is_state_good(position, d.open_count, d.waiting_count, sound),
+        is_state_good: is_state_good(position, d.open_count, d.waiting_count, sound, ends),
         finished: d.finished,
         waiting_count: d.waiting_count,
         first_full,

@@ -1,20 +1,26 @@
 -- A decision fits the record that it is applied to: what closes is open, what starts has room, and no more bytes are
 -- taken than were lent. Assumes nothing.
-use Prim.Native.Nat.{ℕ, _+_, _≤_, _<_}
+use Prim.Native.Nat.{ℕ, _+_, _-_, _≤_, _<_}
 use mathlib.Core.Path.{_≡_, refl, sym, ap, _∙_}
 use mathlib.Core.Bool.{true, false≢true}
-use mathlib.Core.List.{List, map}
+use mathlib.Core.List.{List, [], _∷_, map}
 use native.Mathlib.Omega.{arith}
-use lib.ListN.{length, length-map}
+use borrow.Author.Tests.{leb-true, le-leb}
+use lib.ListN.{length, getD, length-map}
+use lib.Seq.{length-take-le, getD-take}
+use Rattle.basics.specs.Lists.{every}
+use Rattle.basics.proofs.Every.{every-at, every-other}
 use Rattle.tools.specs.Bytes.{Octets}
 use Rattle.table.specs.Table.{Entry, tableOf, partsOf, partsIn}
 use Rattle.table.specs.declared.types.Path.{Path}
+use Rattle.table.specs.declared.types.PathPart.{PathPart}
+use Rattle.table.specs.declared.types.PathPart.the-variants.{Id, Global}
 use Rattle.tag_parse.proofs.Headers.{header-sound}
 use Rattle.tag_parse.specs.declared.types.EBMLSize.{EBMLSize}
 use Rattle.tag_parse.specs.declared.types.TagHeader.{TagHeader}
 use Rattle.tag_parse.specs.declared.types.TagValue.{TagValue}
-use Rattle.decoder_rules.specs.Record.{farthest, implied, withOpen, withNotes, settledTo}
-use Rattle.decoder_rules.specs.OneCall.{step3, settles, step7, noted, step10}
+use Rattle.decoder_rules.specs.Record.{farthest, opens, implied, withOpen, withNotes, settledTo}
+use Rattle.decoder_rules.specs.OneCall.{goodOpen, step3, settles, step7, noted, step10}
 use Rattle.decoder_rules.specs.Deciding.{plain, decide}
 use Rattle.decoder_rules.specs.Moving.{move, apply, decode}
 use Rattle.decoder_rules.specs.EndOfInput.{endedOr, decodeEof}
@@ -37,13 +43,20 @@ use Rattle.decoder_rules.proofs.HeaderPath.{path-few}
 use Rattle.decoder_rules.proofs.Exits as exit
 use Rattle.decoder_rules.proofs.Exits.{Closing, HeaderExit, Admitted, AtHeader, Exit, exits}
 use Rattle.decoder_rules.proofs.EndExits.{isQuiet}
-use Rattle.decoder_rules.proofs.GoodState.{passed12}
-use Rattle.decoder_move.specs.Applies.{NoteApplies, ActionApplies, DecisionApplies}
+use Rattle.decoder_rules.proofs.GoodState.{GoodState, good-open, passed12}
+use Rattle.decoder_rules.proofs.MoveEffects.{settled-opens}
+use Rattle.decoder_move.specs.Applies.{NoteApplies, countFits, CountsFit, ActionApplies, DecisionApplies}
 
 -- the record is good, and n more bytes are within reach
 pub record Near (d : TagDecoder) (n : ℕ) : Type 0 where
   pub few : d .«open_count» ≤ mostOpen
   pub near : d .position + n ≤ farthest
+  pub counts : every countFits (opens d) ≡ true
+
+-- what 11 leaves has counts that fit
+counts-fit : (d : TagDecoder) → GoodState d → every countFits (opens d) ≡ true
+counts-fit d g =
+    every-other (goodOpen (d .position)) countFits (λ m e. le-leb (m .count) farthest (omega (arith, g .place, good-open (d .position) m e .count))) (opens d) (g .masters)
 
 -- ---- what each action asks
 
@@ -55,12 +68,12 @@ fits-refuse d n e = tt
 -- need more asks that the record is near
 pub fits-more : (d : TagDecoder) (n m : ℕ) → Near d n → ActionApplies d n (act.NeedMore m)
 unfolding ActionApplies
-fits-more d n m good = (good .few, good .near)
+fits-more d n m good = (good .few, good .near, good .counts)
 
 -- so does the finish
 pub fits-finish : (d : TagDecoder) (n : ℕ) → Near d n → ActionApplies d n act.Finish
 unfolding ActionApplies
-fits-finish d n good = (good .few, good .near)
+fits-finish d n good = (good .few, good .near, good .counts)
 
 -- an End that is handed out waits
 pub fits-hand-out : (d : TagDecoder) (n : ℕ) → 0 < d .«waiting_count» → ActionApplies d n act.HandOut
@@ -73,14 +86,14 @@ unfolding ActionApplies
 fits-close d n k h f = (h, f)
 
 -- a Start has room, and its header was lent
-pub fits-start : (d : TagDecoder) (n x : ℕ) (z : EBMLSize) (len : ℕ) → d .«open_count» < mostOpen → len ≤ n → d .position + n ≤ farthest → ActionApplies d n (act.Start x z len)
+pub fits-start : (d : TagDecoder) (n x : ℕ) (z : EBMLSize) (len : ℕ) → d .«open_count» < mostOpen → len ≤ n → Near d n → ActionApplies d n (act.Start x z len)
 unfolding ActionApplies
-fits-start d n x z len f l p = (f, l, p)
+fits-start d n x z len f l good = (f, l, good .near, (good .few, good .counts))
 
 -- the bytes of a Data were lent
-pub fits-data : (d : TagDecoder) (n x : ℕ) (v : TagValue) (m : ℕ) → m ≤ n → d .position + n ≤ farthest → ActionApplies d n (act.Data x v m)
+pub fits-data : (d : TagDecoder) (n x : ℕ) (v : TagValue) (m : ℕ) → m ≤ n → Near d n → ActionApplies d n (act.Data x v m)
 unfolding ActionApplies
-fits-data d n x v m l p = (l, p)
+fits-data d n x v m l good = (l, good .near, (good .few, good .counts))
 
 -- ---- steps 8 to 11
 
@@ -96,19 +109,27 @@ module _ (t : List Entry) (d : TagDecoder) (n : ℕ) (good : Near d n) where
     header-fits (exit.too-large m p z f g) = fits-refuse d n _
     header-fits (exit.ends-tops v k c) = closing-within (step10 t d (h .id)) k c
     header-fits (exit.too-many at k f) = fits-refuse d n _
-    header-fits (exit.starts at k f) = fits-start d n (h .id) (h .size) (h .len) f l (good .near)
+    header-fits (exit.starts at k f) = fits-start d n (h .id) (h .size) (h .len) f l good
     header-fits (exit.no-size at k z) = fits-refuse d n _
     header-fits (exit.payload-incomplete m has f) = fits-more d n _ good
     header-fits (exit.payload-refused m x has f q) = fits-refuse d n _
-    header-fits (exit.holds m v has f q) = fits-data d n (h .id) v (h .len + m) (omega arith) (good .near)
+    header-fits (exit.holds m v has f q) = fits-data d n (h .id) v (h .len + m) (omega arith) good
 
 -- ---- the note
+
+-- what a path implies has had no child
+implied-fit : (path : List PathPart) → every countFits (map implied path) ≡ true
+unfolding every
+implied-fit [] = refl
+implied-fit (Id x ∷ path) = implied-fit path
+implied-fit (Global least most ∷ path) = implied-fit path
 
 -- a note that fits leaves a good record good
 noted-near : (ps : List ℕ) (d : TagDecoder) (n : ℕ) (note : Note) → Near d n → NoteApplies ps note → Near (noted ps d note) n
 unfolding NoteApplies noted settledTo withOpen withNotes
 noted-near ps d n NoNote good f = good
-noted-near ps d n (Settle path) good f = record { few = f; near = good .near }
+noted-near ps d n (Settle path) good f =
+    record { few = f; near = good .near; counts = rw (settled-opens d (partsIn (partsOf ps) path)) (implied-fit (partsIn (partsOf ps) path)) }
 
 -- no note asks nothing
 pub note-none : (ps : List ℕ) → NoteApplies ps NoNote
@@ -138,7 +159,7 @@ module _ (es ps : List ℕ) (d : TagDecoder) (s : List ℕ) (byte : Octets s) wh
 
   -- the record that 1 admits is near
   near-by : Admitted es ps d s → Near d (length s)
-  near-by ok = let p = passed12 es ps d (length s) (ok .first) in record { few = p .good .«open-count»; near = p .near }
+  near-by ok = let p = passed12 es ps d (length s) (ok .first) in record { few = p .good .«open-count»; near = p .near; counts = counts-fit d (p .good) }
 
   -- the path of a header that was read has at most 16 parts
   step7-fits : (h : TagHeader) → AtHeader es ps d s h → NoteApplies ps (step7 (tableOf es ps) d h)
@@ -189,10 +210,27 @@ pub starts : (d : TagDecoder) (n x : ℕ) (z : EBMLSize) (len : ℕ) → ActionA
 unfolding ActionApplies
 starts d n x z len f = (f .0, omega (arith, f .1, f .2))
 
+-- and the counts of the open masters fit
+pub start-counts : (d : TagDecoder) (n x : ℕ) (z : EBMLSize) (len : ℕ) → ActionApplies d n (act.Start x z len) → CountsFit d
+unfolding ActionApplies
+start-counts d n x z len f = f .3
+
 -- the bytes are within reach
 pub passes-on : (d : TagDecoder) (n x : ℕ) (v : TagValue) (m : ℕ) → ActionApplies d n (act.Data x v m) → d .position + m ≤ farthest
 unfolding ActionApplies
 passes-on d n x v m f = omega (arith, f .0, f .1)
+
+-- and the counts of the open masters fit
+pub data-counts : (d : TagDecoder) (n x : ℕ) (v : TagValue) (m : ℕ) → ActionApplies d n (act.Data x v m) → CountsFit d
+unfolding ActionApplies
+data-counts d n x v m f = f .2
+
+-- so that of the top fits, where one is open
+pub top-fits : (d : TagDecoder) (top : ℕ) → length (d .«open») ≡ mostOpen → CountsFit d → (0 < d .«open_count» → top ≡ d .«open_count» - 1) → 0 < d .«open_count»
+    → getD (d .«open») top noTag .count ≤ farthest
+top-fits d top long fits is h =
+    let e = every-at countFits (opens d) noTag (fits .1) top (rw (length-take-le (d .«open_count») (d .«open») (omega (arith, fits .0))) (omega (arith, is h))) in
+    leb-true (getD (d .«open») top noTag .count) farthest (rw (getD-take (d .«open_count») (d .«open») top noTag (omega (arith, is h))) at e)
 
 -- the path fits the record
 pub note-settles : (ps : List ℕ) (path : Path) → NoteApplies ps (Settle path) → length (partsIn (partsOf ps) path) ≤ mostOpen
@@ -204,8 +242,8 @@ note-settles ps path f = f
 quiet-near : (d : TagDecoder) (n : ℕ) (a : Action) → ActionApplies d n a → isQuiet (move d a .answer) ≡ true → Near (move d a .state) n
 unfolding ActionApplies move
 quiet-near d n (act.Refuse e) f q = absurd (false≢true q)
-quiet-near d n (act.NeedMore missing) f q = record { few = f .0; near = f .1 }
-quiet-near d n act.Finish f q = record { few = f .0; near = f .1 }
+quiet-near d n (act.NeedMore missing) f q = record { few = f .0; near = f .1; counts = f .2 }
+quiet-near d n act.Finish f q = record { few = f .0; near = f .1; counts = f .2 }
 quiet-near d n act.HandOut f q = absurd (false≢true q)
 quiet-near d n (act.Close k) f q = absurd (false≢true q)
 quiet-near d n (act.Start x y l) f q = absurd (false≢true q)

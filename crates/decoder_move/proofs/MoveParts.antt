@@ -1,10 +1,16 @@
 -- A move is its parts: what is answered, what is taken, and the record. Assumes nothing.
-use Prim.Native.Nat.{ℕ, _-_, _≤_}
+use Prim.Native.Nat.{ℕ, zero, suc, _-_, _≤_, min}
 use mathlib.Core.Path.{_≡_, refl}
+use mathlib.Core.Bool.{cond}
+use mathlib.Core.List.{List}
 use native.Mathlib.Omega.{arith}
-use lib.ListN.{length, getD}
+use borrow.Author.Tests.{lt-ltb}
+use lib.Dec.{ltb}
+use lib.ListN.{length, getD, set}
+use lib.Seq.{set-getD}
 use Rattle.spec_util.specs.Walk.{mostOpen, noTag}
-use Rattle.decoder_rules.specs.Record.{noEnd}
+use Rattle.spec_util.specs.declared.types.OpenTag.{OpenTag}
+use Rattle.decoder_rules.specs.Record.{noEnd, oneMore, countedLast}
 use Rattle.decoder_rules.specs.Moving.{gives, move}
 use Rattle.decoder_rules.specs.declared.types.Action.{Action}
 use Rattle.decoder_rules.specs.declared.types.Action.the-variants as act
@@ -24,3 +30,12 @@ moved-parts d n i act.HandOut w f top = refl
 moved-parts d n i (act.Close k) w f top = rw (top (f .1), ends-head d k (f .0) (omega (arith, f .1)))
 moved-parts d n i (act.Start x z len) w f top = refl
 moved-parts d n i (act.Data x v m) w f top = refl
+
+-- the child that the top of the places has more is counted in the last of the n in use; where none is, nothing changes
+pub child-counted : (l : List OpenTag) (n top : ℕ) → n ≤ mostOpen → top ≡ min (n - 1) (mostOpen - 1)
+    → set l top (cond (ltb 0 n) (oneMore (getD l top noTag)) (getD l top noTag)) ≡ countedLast n l
+unfolding countedLast
+child-counted l zero top few e = set-getD l top noTag
+child-counted l (suc n) top few e =
+    let k : top ≡ n = omega arith in
+    rw (lt-ltb 0 (suc n) (omega arith), k)

@@ -1,14 +1,15 @@
 // How the record moves: each routine gives the whole record as it is after one move, its empty places too.
 
-ghost use mathlib.Core.Bool.{true};
+ghost use mathlib.Core.Bool.{true, cond};
 ghost use mathlib.Core.Path.{_≡_};
 ghost use Prim.Native.Nat.{_+_, _^_, _≤_, _<_};
+ghost use lib.Dec.{ltb};
 ghost use lib.ListN.{length};
 ghost use Rattle.basics.specs.Lists.{every};
 ghost use Rattle.table.specs.Table.{partsOf, partsIn};
 ghost use Rattle.decoder_rules.specs.OneCall.{goodOpen};
 ghost use Rattle.decoder_rules.specs.Moving.{masterAt};
-ghost use Rattle.decoder_rules.specs.Record.{farthest, opens, noEnd, endFor, fresh, withNotes, implied, settledTo, closedTo, handedOut, sizeGrown, withSizesGrown};
+ghost use Rattle.decoder_rules.specs.Record.{farthest, opens, noEnd, endFor, fresh, withNotes, implied, settledTo, closedTo, handedOut, oneMore, sizeGrown, withSizesGrown};
 ghost use Rattle.spec_util.specs.Walk.{mostOpen};
 use decoder_rules::types::FIRST_GREATEST_SIZE;
 use decoder_rules::types::Settings;
@@ -31,7 +32,11 @@ pub const LAST_PLACE: usize = MOST_OPEN - 1;
 pub fn no_end() -> WaitingEnd
     ensures { λ r. ⌜ r ≡ noEnd ⌝ }
 {
-    WaitingEnd { id: 0, offset: 0 }
+    WaitingEnd {
+        id: 0,
+        offset: 0,
+        count: 0,
+    }
 }
 
 // The End of a master.
@@ -41,6 +46,7 @@ pub fn end_for(m: OpenTag) -> WaitingEnd
     WaitingEnd {
         id: m.id,
         offset: m.tag_start,
+        count: m.count,
     }
 }
 
@@ -142,6 +148,17 @@ pub fn closed_to(mut d: TagDecoder, k: usize) -> TagDecoder
         d.open[i] = tag;
     }
     d
+}
+
+// A master with one child more, where so many are open that it is one of them.
+pub fn with_child(mut m: OpenTag, open_count: usize) -> OpenTag
+    requires { ⌜ (0 < «open_count» → m .count ≤ farthest) ⌝ }
+    ensures { λ r. ⌜ r ≡ cond (ltb 0 «open_count») (oneMore m) m ⌝ }
+{
+    if 0 < open_count {
+        m.count += 1;
+    }
+    m
 }
 
 // A master whose size, if it is known, is larger by n.

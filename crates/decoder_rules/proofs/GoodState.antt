@@ -2,7 +2,7 @@
 -- of the record, and what makes it pass. Assumes nothing.
 use Prim.Native.Nat.{ℕ, _+_, _≤_}
 use mathlib.Core.Path.{_≡_, refl}
-use mathlib.Core.Bool.{Bool, true, false, cond, not, _||_, false≢true}
+use mathlib.Core.Bool.{Bool, true, false, cond, not, _&&_, _||_, false≢true}
 use mathlib.Core.List.{List}
 use borrow.Author.Tests.{leb-true, le-leb}
 use lib.Dec.{leb}
@@ -11,8 +11,8 @@ use Rattle.table.specs.Shape.{goodShape}
 use Rattle.basics.proofs.Bools.{both, and-both, absurd-eq}
 use Rattle.spec_util.specs.Walk.{mostOpen}
 use Rattle.spec_util.specs.declared.types.OpenTag.{OpenTag}
-use Rattle.decoder_rules.specs.Record.{farthest, sizeLimit, opens}
-use Rattle.decoder_rules.specs.OneCall.{goodOpen, goodState, check10to12, checkRecord10to12, andThen}
+use Rattle.decoder_rules.specs.Record.{farthest, sizeLimit, opens, waits}
+use Rattle.decoder_rules.specs.OneCall.{goodOpen, goodEnd, goodState, check10to12, checkRecord10to12, andThen}
 use Rattle.decoder_rules.specs.declared.types.Check.{Check}
 use Rattle.decoder_rules.specs.declared.types.Check.the-variants.{Pass, Fail}
 use Rattle.decoder_rules.specs.declared.types.DecodeError.the-variants.{TableShape, BadState, TooFar}
@@ -24,6 +24,7 @@ use Rattle.decoder_rules.specs.declared.types.TagDecoder.{TagDecoder}
 pub record GoodOpen (p : ℕ) (m : OpenTag) : Type 0 where
   pub start : m .«data_start» ≤ p
   pub size : m .known ≡ true → m .size ≤ sizeLimit + p
+  pub count : m .count ≤ p
 
 size-known : (known : Bool) (size p : ℕ) → (not known || leb size (sizeLimit + p)) ≡ true → known ≡ true → size ≤ sizeLimit + p
 size-known true size p h k = leb-true size (sizeLimit + p) h
@@ -37,13 +38,14 @@ size-good false size p h = refl
 pub good-open : (p : ℕ) (m : OpenTag) → goodOpen p m ≡ true → GoodOpen p m
 unfolding goodOpen
 good-open p m h =
-    let b = both (leb (m .«data_start») p) (not (m .known) || leb (m .size) (sizeLimit + p)) h in
-    record { start = leb-true _ _ (b .left); size = size-known (m .known) (m .size) p (b .right) }
+    let a = both (leb (m .«data_start») p && leb (m .count) p) (not (m .known) || leb (m .size) (sizeLimit + p)) h in
+    let b = both (leb (m .«data_start») p) (leb (m .count) p) (a .left) in
+    record { start = leb-true _ _ (b .left); size = size-known (m .known) (m .size) p (a .right); count = leb-true _ _ (b .right) }
 
 -- and what makes it pass
 pub is-good-open : (p : ℕ) (m : OpenTag) → GoodOpen p m → goodOpen p m ≡ true
 unfolding goodOpen
-is-good-open p m g = and-both (le-leb _ _ (g .start)) (size-good (m .known) (m .size) p (g .size))
+is-good-open p m g = and-both (and-both (le-leb _ _ (g .start)) (le-leb _ _ (g .count))) (size-good (m .known) (m .size) p (g .size))
 
 -- ---- the record
 
@@ -53,6 +55,7 @@ pub record GoodState (d : TagDecoder) : Type 0 where
   pub waiting-count : d .«waiting_count» ≤ mostOpen
   pub place : d .position ≤ farthest
   pub masters : every (goodOpen (d .position)) (opens d) ≡ true
+  pub ends : every (goodEnd (d .position)) (waits d) ≡ true
 
 -- where it is passed
 pub good-state : (d : TagDecoder) → goodState d ≡ true → GoodState d
@@ -61,12 +64,13 @@ good-state d h =
     let a = both _ _ h in
     let b = both _ _ (a .left) in
     let e = both _ _ (b .left) in
-    record { open-count = leb-true _ _ (e .left); waiting-count = leb-true _ _ (e .right); place = leb-true _ _ (b .right); masters = a .right }
+    let l = both _ _ (a .right) in
+    record { open-count = leb-true _ _ (e .left); waiting-count = leb-true _ _ (e .right); place = leb-true _ _ (b .right); masters = l .left; ends = l .right }
 
 -- and what makes it pass
 pub is-good-state : (d : TagDecoder) → GoodState d → goodState d ≡ true
 unfolding goodState
-is-good-state d g = and-both (and-both (and-both (le-leb _ _ (g .open-count)) (le-leb _ _ (g .waiting-count))) (le-leb _ _ (g .place))) (g .masters)
+is-good-state d g = and-both (and-both (and-both (le-leb _ _ (g .open-count)) (le-leb _ _ (g .waiting-count))) (le-leb _ _ (g .place))) (and-both (g .masters) (g .ends))
 
 -- ---- 10, 11 and 12
 

@@ -29,10 +29,11 @@ pub record SameNotes (d e : TagDecoder) : Type 0 where
   pub finished : e .finished ≡ d .finished
 
 -- as one value
-abbrev notes : TagDecoder → ℕ × Bool × Bool
+abbrev pub notes : TagDecoder → ℕ × Bool × Bool
 notes d = (d .position, d .settled, d .finished)
 
-same-notes : (d e : TagDecoder) → notes e ≡ notes d → SameNotes d e
+-- two records whose notes are the same
+pub same-notes : (d e : TagDecoder) → notes e ≡ notes d → SameNotes d e
 same-notes d e h = record { position = ap (λ s. s .0) h; settled = ap (λ s. s .1) h; finished = ap (λ s. s .2) h }
 
 module _ (d : TagDecoder) where

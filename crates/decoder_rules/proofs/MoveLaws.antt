@@ -6,7 +6,7 @@ use mathlib.Core.Bool.{Bool, true, false, _||_, false≢true}
 use mathlib.Core.List.{List}
 use native.Mathlib.Omega.{arith}
 use Rattle.table.specs.Table.{partsOf, partsIn}
-use Rattle.decoder_rules.specs.Record.{withOpen, withWaiting, withNotes, opened, closedTo, handedOut, waits}
+use Rattle.decoder_rules.specs.Record.{withOpen, withWaiting, withNotes, counted, opened, closedTo, handedOut, waits}
 use Rattle.decoder_rules.specs.OneCall.{isSettle, noted}
 use Rattle.decoder_rules.specs.Deciding.{decide, actionNeedsMore, actionMissing}
 use Rattle.decoder_rules.specs.Moving.{needsMore, missingIn, move, apply, decode}
@@ -68,7 +68,7 @@ module _ (ps : List ℕ) (d : TagDecoder) where
 module _ (d : TagDecoder) where
   -- a move keeps the settings
   pub move-settings : (a : Action) → SameSettings d (move d a .state)
-  unfolding move withOpen withWaiting withNotes opened closedTo handedOut
+  unfolding move withOpen withWaiting withNotes counted opened closedTo handedOut
   move-settings (act.Refuse e) = refl
   move-settings (act.NeedMore missing) = refl
   move-settings act.Finish = refl
@@ -79,7 +79,7 @@ module _ (d : TagDecoder) where
 
   -- a move is no finish
   pub move-finished : (a : Action) → move d a .state .finished ≡ d .finished
-  unfolding move withOpen withWaiting withNotes opened closedTo handedOut
+  unfolding move withOpen withWaiting withNotes counted opened closedTo handedOut
   move-finished (act.Refuse e) = refl
   move-finished (act.NeedMore missing) = refl
   move-finished act.Finish = refl
@@ -90,7 +90,7 @@ module _ (d : TagDecoder) where
 
   -- a move does not settle
   pub move-settled : (a : Action) → move d a .state .settled ≡ d .settled
-  unfolding move withOpen withWaiting withNotes opened closedTo handedOut
+  unfolding move withOpen withWaiting withNotes counted opened closedTo handedOut
   move-settled (act.Refuse e) = refl
   move-settled (act.NeedMore missing) = refl
   move-settled act.Finish = refl
@@ -101,7 +101,7 @@ module _ (d : TagDecoder) where
 
   -- the position moves by what is taken
   pub move-position : (a : Action) → move d a .state .position ≡ d .position + move d a .taken
-  unfolding move withOpen withWaiting withNotes opened closedTo handedOut
+  unfolding move withOpen withWaiting withNotes counted opened closedTo handedOut
   move-position (act.Refuse e) = omega arith
   move-position (act.NeedMore missing) = omega arith
   move-position act.Finish = omega arith

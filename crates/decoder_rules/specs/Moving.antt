@@ -8,7 +8,7 @@ use Rattle.spec_util.specs.Walk.{openTag}
 use Rattle.spec_util.specs.declared.types.OpenTag.{OpenTag}
 use Rattle.tag_parse.specs.declared.types.EBMLSize.{EBMLSize}
 use Rattle.tag_parse.specs.declared.types.EBMLSize.the-variants.{Known, Unknown}
-use Rattle.decoder_rules.specs.Record.{endsFrom, noEnd, atPosition, opened, closedTo, handedOut}
+use Rattle.decoder_rules.specs.Record.{endsFrom, noEnd, atPosition, counted, opened, closedTo, handedOut}
 use Rattle.decoder_rules.specs.OneCall.{noted}
 use Rattle.decoder_rules.specs.Deciding.{decide}
 use Rattle.decoder_rules.specs.declared.types.Action.{Action}
@@ -35,7 +35,8 @@ abbrev pub masterAt : ℕ → EBMLSize → ℕ → ℕ → OpenTag
 masterAt x Unknown p len = openTag x false 0 p (p + len)
 masterAt x (Known n) p len = openTag x true n p (p + len)
 
--- what an action answers, takes and leaves, on the record with the note
+-- what an action answers, takes and leaves, on the record with the note; a Start counts in the master in which it
+-- stands, and not in its own
 unfoldable pub move : TagDecoder → Action → Decoded
 move d (act.Refuse e) = refuse e (d .position) d
 move d (act.NeedMore missing) = gives (answer.NeedMore missing) 0 d
@@ -43,8 +44,8 @@ move d act.Finish = gives answer.Finished 0 d
 move d act.HandOut = gives (answer.Event (event.End (getD (d .waiting) 0 noEnd))) 0 (handedOut d)
 move d (act.Close k) = gives (answer.Event (event.End (getD (endsFrom d k) 0 noEnd))) 0 (closedTo d k)
 move d (act.Start x size len) =
-    gives (answer.Event (event.Start x (d .position))) len (opened (atPosition d (d .position + len)) (masterAt x size (d .position) len))
-move d (act.Data x v n) = gives (answer.Event (event.Data x (d .position) v)) n (atPosition d (d .position + n))
+    gives (answer.Event (event.Start x (d .position))) len (opened (counted (atPosition d (d .position + len))) (masterAt x size (d .position) len))
+move d (act.Data x v n) = gives (answer.Event (event.Data x (d .position) v)) n (counted (atPosition d (d .position + n)))
 
 -- what a decision answers, takes and leaves: the note first, then the action
 unfoldable pub apply : List ℕ → TagDecoder → Decision → Decoded

@@ -26,7 +26,7 @@ use Rattle.tag_parse.specs.declared.types.EBMLSize.the-variants.{Known, Unknown
 use Rattle.tag_parse.specs.declared.types.ReadValue.{ReadValue}
 use Rattle.tag_parse.specs.declared.types.ReadValue.the-variants as payload
 use Rattle.tag_parse.specs.declared.types.TagHeader.{TagHeader}
-use Rattle.decoder_rules.specs.Record.{farthest, sizeLimit, opens, endOf, settledTo}
+use Rattle.decoder_rules.specs.Record.{farthest, sizeLimit, opens, waits, endOf, settledTo}
 use Rattle.decoder_rules.specs.Numbers.{parseError}
 use Rattle.decoder_rules.specs.declared.types.Action.{Action}
 use Rattle.decoder_rules.specs.declared.types.Action.the-variants as act
@@ -36,18 +36,25 @@ use Rattle.decoder_rules.specs.declared.types.DecodeError.the-variants a
 use Rattle.decoder_rules.specs.declared.types.Note.{Note}
 use Rattle.decoder_rules.specs.declared.types.Note.the-variants.{NoNote, Settle}
 use Rattle.decoder_rules.specs.declared.types.TagDecoder.{TagDecoder}
+use Rattle.decoder_rules.specs.declared.types.WaitingEnd.{WaitingEnd}
 
 -- ---- 1. "Refusals 10, 11, 12, 13 in this order."
 
--- what 11 asks of an open master: its data start not beyond the position, a known size at most 2^56 + position
+-- what 11 asks of an open master: its data start not beyond the position, and so its count (document 02, CR 10: "11 also
+-- where a count exceeds the position"); a known size at most 2^56 + position
 unfoldable pub goodOpen : ℕ → OpenTag → Bool
-goodOpen p m = leb (m .«data_start») p && (not (m .known) || leb (m .size) (sizeLimit + p))
+goodOpen p m = leb (m .«data_start») p && leb (m .count) p && (not (m .known) || leb (m .size) (sizeLimit + p))
+
+-- what 11 asks of an End that waits: its count not beyond the position
+unfoldable pub goodEnd : ℕ → WaitingEnd → Bool
+goodEnd p e = leb (e .count) p
 
 -- whether nothing of this holds: "over 32 open, or over 32 waiting, position over 2^62, a data start beyond the
--- position, a known size over 2^56 + position"
+-- position, a known size over 2^56 + position", a count of an open master or of a waiting End over the position
 unfoldable pub goodState : TagDecoder → Bool
 goodState d =
-    leb (d .«open_count») mostOpen && leb (d .«waiting_count») mostOpen && leb (d .position) farthest && every (goodOpen (d .position)) (opens d)
+    leb (d .«open_count») mostOpen && leb (d .«waiting_count») mostOpen && leb (d .position) farthest
+    && (every (goodOpen (d .position)) (opens d) && every (goodEnd (d .position)) (waits d))
 
 -- 10, 11 and 12, where the state was found good or not, at this position, with n bytes lent
 unfoldable pub check10to12 : List ℕ → List ℕ → Bool → ℕ → ℕ → Check

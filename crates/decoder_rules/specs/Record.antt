@@ -1,9 +1,9 @@
 -- The decoder's record: what stands in it, and how it moves. One definition for each group of fields that a call
 -- changes.
-use Prim.Native.Nat.{ℕ, _+_, _-_, _^_}
+use Prim.Native.Nat.{ℕ, zero, suc, _+_, _-_, _^_}
 use mathlib.Core.Bool.{Bool, true, false, cond}
 use mathlib.Core.List.{List, [], _∷_, _++_, map, reverse}
-use lib.ListN.{length, take, drop, set, replicate}
+use lib.ListN.{length, getD, take, drop, set, replicate}
 use Rattle.basics.specs.Lists.{filled}
 use Rattle.table.specs.declared.types.PathPart.{PathPart}
 use Rattle.table.specs.declared.types.PathPart.the-variants.{Id, Global}
@@ -41,13 +41,13 @@ waits d = take (d .«waiting_count») (d .waiting)
 abbrev pub endOf : OpenTag → ℕ
 endOf m = m .«data_start» + m .size
 
--- the End of a master: its ID and where it started
+-- the End of a master: its ID, where it started, and, document 02, CR 10, "how many children it had"
 unfoldable pub endFor : OpenTag → WaitingEnd
-endFor m = record { id = m .id; offset = m .«tag_start» }
+endFor m = record { id = m .id; offset = m .«tag_start»; count = m .count }
 
 -- what an empty place of the waiting Ends holds
 abbrev pub noEnd : WaitingEnd
-noEnd = record { id = 0; offset = 0 }
+noEnd = record { id = 0; offset = 0; count = 0 }
 
 -- the Ends of all above the first k, innermost first
 unfoldable pub endsFrom : TagDecoder → ℕ → List WaitingEnd
@@ -151,9 +151,27 @@ closedTo d k =
 unfoldable pub handedOut : TagDecoder → TagDecoder
 handedOut d = withWaiting d (drop 1 (d .waiting) ++ (noEnd ∷ [])) (d .«waiting_count» - 1)
 
+-- a master with one child more
+unfoldable pub oneMore : OpenTag → OpenTag
+oneMore m = record { id = m .id; known = m .known; size = m .size; «tag_start» = m .«tag_start»; «data_start» = m .«data_start»; count = m .count + 1 }
+
+-- of these places n are in use: the last of those, the innermost master, has one child more
+unfoldable pub countedLast : ℕ → List OpenTag → List OpenTag
+countedLast zero l = l
+countedLast (suc n) l = set l n (oneMore (getD l n noTag))
+
+-- a Start or a Data is handed out: it counts in the innermost open master, where one is open. Document 02, CR 10: "the
+-- number of Starts and Data whose innermost open master it was"
+unfoldable pub counted : TagDecoder → TagDecoder
+counted d = withOpen d (countedLast (d .«open_count») (d .«open»)) (d .«open_count»)
+
+-- a master of known size that is larger by n
+abbrev pub larger : ℕ → OpenTag → OpenTag
+larger n m = record { id = m .id; known = true; size = m .size + n; «tag_start» = m .«tag_start»; «data_start» = m .«data_start»; count = m .count }
+
 -- a master whose size, if it is known, is larger by n
 unfoldable pub sizeGrown : ℕ → OpenTag → OpenTag
-sizeGrown n m = cond (m .known) (openTag (m .id) true (m .size + n) (m .«tag_start») (m .«data_start»)) m
+sizeGrown n m = cond (m .known) (larger n m) m
 
 -- "every open known size grows by the bytes passed over"
 unfoldable pub withSizesGrown : TagDecoder → ℕ → TagDecoder

@@ -16,10 +16,11 @@ pub const SIZE_LIMIT: u64 = 0x0100_0000_0000_0000;
 // The greatest size that a fresh decoder takes.
 pub const FIRST_GREATEST_SIZE: u64 = 4_000_000_000;
 
-// The End of a master: its ID and where it started.
+// The End of a master: its ID, where it started, and how many children it had.
 pub struct WaitingEnd {
     pub id: u64,
     pub offset: u64,
+    pub count: u64,
 }
 
 // The settings: the tests that are switched off (unknown IDs, hierarchy, child sizes), and the greatest size, if one is

@@ -11,7 +11,7 @@ use Rattle.tools.specs.Bytes.{Octets}
 use Rattle.table.specs.Table.{Entry, tableOf}
 use Rattle.tag_parse.specs.declared.types.TagHeader.{TagHeader}
 use Rattle.tag_parse.proofs.Headers.{header-sound}
-use Rattle.decoder_rules.specs.Record.{withOpen, withWaiting, withNotes, settledTo, opened, closedTo, handedOut}
+use Rattle.decoder_rules.specs.Record.{withOpen, withWaiting, withNotes, settledTo, counted, opened, closedTo, handedOut}
 use Rattle.decoder_rules.specs.OneCall.{step7, noted}
 use Rattle.decoder_rules.specs.Deciding.{decide}
 use Rattle.decoder_rules.specs.Moving.{needsMore, move, apply, decode}
@@ -54,7 +54,7 @@ closing-nearer n w l (exit.no-master c) q = absurd (true≢false q)
 -- 8 to 11 on a header that was read
 header-nearer : {t : List Entry} {e : TagDecoder} {h : TagHeader} {s : List ℕ} {a : Action} → e .«waiting_count» ≡ 0 → 0 < h .len → h .len ≤ length s
     → HeaderExit t e h s a → Nearer e (length s) (move e a)
-unfolding move withOpen withNotes opened
+unfolding move counted withOpen withNotes opened
 header-nearer w some l (exit.misplaced p) q = absurd (true≢false q)
 header-nearer w some l (exit.oversized n p z f) q = absurd (true≢false q)
 header-nearer w some l (exit.too-large n p z f g) q = absurd (true≢false q)

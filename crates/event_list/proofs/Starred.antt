@@ -35,9 +35,9 @@ use Rattle.event_list.proofs.Computed.{listed-is-the-list}
 abbrev pub starts : ℕ → ℕ → ℕ → Call
 starts x o n = record { told = event (Start x o); taken = n }
 
--- the End of this ID, which started at this offset: it takes nothing
-abbrev pub ends : ℕ → ℕ → Call
-ends x o = record { told = event (End (record { id = x; offset = o })); taken = 0 }
+-- the End of this ID, which started at this offset and had n children: it takes nothing
+abbrev pub ends : ℕ → ℕ → ℕ → Call
+ends x o n = record { told = event (End (record { id = x; offset = o; count = n })); taken = 0 }
 
 -- an element of n bytes with this ID at this offset: a number, a text or a raw one from begin to end, or a float's bits
 abbrev pub unsigned : ℕ → ℕ → ℕ → ℕ → Call
@@ -74,6 +74,10 @@ sized x size start begin = openTag x true size start begin
 
 abbrev pub unsized : ℕ → ℕ → ℕ → OpenTag
 unsized x start begin = openTag x false 0 start begin
+
+-- a master that has had n children
+abbrev pub having : ℕ → OpenTag → OpenTag
+having n m = record { id = m .id; known = m .known; size = m .size; «tag_start» = m .«tag_start»; «data_start» = m .«data_start»; count = n }
 
 -- a parent that is implied: "size Unknown, offsets 0"
 abbrev pub parent : ℕ → OpenTag
@@ -148,15 +152,15 @@ starred =
     -- D1: the list that is printed
     (lists d1, prints d1Lines)
     -- D1: the calls
-    ∷ (lent fresh d1, gives (starts 0x4E01 0 3 ∷ starts 0xA1 3 2 ∷ unsigned 0xA2 5 120 3 ∷ text 0xA3 8 10 12 4 ∷ ends 0xA1 3 ∷ ends 0x4E01 0 ∷ []) asksForMore (finishes ∷ []) (doneAt fresh 12))
+    ∷ (lent fresh d1, gives (starts 0x4E01 0 3 ∷ starts 0xA1 3 2 ∷ unsigned 0xA2 5 120 3 ∷ text 0xA3 8 10 12 4 ∷ ends 0xA1 3 2 ∷ ends 0x4E01 0 1 ∷ []) asksForMore (finishes ∷ []) (doneAt fresh 12))
     -- D2: Starts, Amount, both Ends at the end of input, finished
-    ∷ (lent fresh (0x4E ∷ 0x01 ∷ 0xFF ∷ 0xA1 ∷ 0xFF ∷ 0xA2 ∷ 0x81 ∷ 0x78 ∷ []), gives (starts 0x4E01 0 3 ∷ starts 0xA1 3 2 ∷ unsigned 0xA2 5 120 3 ∷ []) asksForMore (ends 0xA1 3 ∷ ends 0x4E01 0 ∷ finishes ∷ []) (doneAt fresh 8))
+    ∷ (lent fresh (0x4E ∷ 0x01 ∷ 0xFF ∷ 0xA1 ∷ 0xFF ∷ 0xA2 ∷ 0x81 ∷ 0x78 ∷ []), gives (starts 0x4E01 0 3 ∷ starts 0xA1 3 2 ∷ unsigned 0xA2 5 120 3 ∷ []) asksForMore (ends 0xA1 3 1 ∷ ends 0x4E01 0 1 ∷ finishes ∷ []) (doneAt fresh 8))
     -- D3: 23, Session, start 0, size 9
-    ∷ (lent fresh (0x4E ∷ 0x01 ∷ 0x89 ∷ 0xA1 ∷ 0x87 ∷ 0xA2 ∷ 0x81 ∷ 0x78 ∷ []), gives (starts 0x4E01 0 3 ∷ starts 0xA1 3 2 ∷ unsigned 0xA2 5 120 3 ∷ []) asksForMore (cuts 23 0 0x4E01 9 ∷ []) (settledAt 8 (sized 0x4E01 9 0 3 ∷ sized 0xA1 7 3 5 ∷ [])))
+    ∷ (lent fresh (0x4E ∷ 0x01 ∷ 0x89 ∷ 0xA1 ∷ 0x87 ∷ 0xA2 ∷ 0x81 ∷ 0x78 ∷ []), gives (starts 0x4E01 0 3 ∷ starts 0xA1 3 2 ∷ unsigned 0xA2 5 120 3 ∷ []) asksForMore (cuts 23 0 0x4E01 9 ∷ []) (settledAt 8 (having 1 (sized 0x4E01 9 0 3) ∷ having 1 (sized 0xA1 7 3 5) ∷ [])))
     -- D4: the second Session starts at 5, inside Feed, which the end cuts
-    ∷ (lent fresh (0x4E ∷ 0x01 ∷ 0xFF ∷ 0xA1 ∷ 0x85 ∷ 0x4E ∷ 0x01 ∷ 0x80 ∷ []), gives (starts 0x4E01 0 3 ∷ starts 0xA1 3 2 ∷ starts 0x4E01 5 3 ∷ ends 0x4E01 5 ∷ []) asksForMore (cuts 23 3 0xA1 5 ∷ []) (settledAt 8 (unsized 0x4E01 0 3 ∷ sized 0xA1 5 3 5 ∷ [])))
-    -- D5: Amount at 0, End A1 at 0, End 4E01 at 0
-    ∷ (lent fresh (0xA2 ∷ 0x81 ∷ 0x78 ∷ []), gives (unsigned 0xA2 0 120 3 ∷ []) asksForMore (ends 0xA1 0 ∷ ends 0x4E01 0 ∷ finishes ∷ []) (doneAt fresh 3))
+    ∷ (lent fresh (0x4E ∷ 0x01 ∷ 0xFF ∷ 0xA1 ∷ 0x85 ∷ 0x4E ∷ 0x01 ∷ 0x80 ∷ []), gives (starts 0x4E01 0 3 ∷ starts 0xA1 3 2 ∷ starts 0x4E01 5 3 ∷ ends 0x4E01 5 0 ∷ []) asksForMore (cuts 23 3 0xA1 5 ∷ []) (settledAt 8 (having 1 (unsized 0x4E01 0 3) ∷ having 1 (sized 0xA1 5 3 5) ∷ [])))
+    -- D5: Amount at 0, End A1 at 0, End 4E01 at 0; Session had no child, since Feed was implied and never started
+    ∷ (lent fresh (0xA2 ∷ 0x81 ∷ 0x78 ∷ []), gives (unsigned 0xA2 0 120 3 ∷ []) asksForMore (ends 0xA1 0 1 ∷ ends 0x4E01 0 0 ∷ finishes ∷ []) (doneAt fresh 3))
     -- D6: 15
     ∷ (lent fresh (0x00 ∷ 0x81 ∷ 0x05 ∷ []), gives [] (refuses 15 0) (refuses 15 0 ∷ []) fresh)
     -- D6, allowed: raw, range 2 to 3
@@ -169,11 +173,11 @@ starred =
     -- D8: 18 at Feed
     ∷ (lent fresh (0x4E ∷ 0x01 ∷ 0x88 ∷ 0xA1 ∷ 0x87 ∷ 0xA2 ∷ 0x81 ∷ 0x78 ∷ 0xA3 ∷ 0x82 ∷ 0x6D ∷ 0x6C ∷ []), gives (starts 0x4E01 0 3 ∷ []) (refuses 18 3) (refuses 18 3 ∷ []) (settledAt 3 (sized 0x4E01 8 0 3 ∷ [])))
     -- D9: Feed starts; its header passes Session's end; then both Ends
-    ∷ (lent fresh (0x4E ∷ 0x01 ∷ 0x81 ∷ 0xA1 ∷ 0xFF ∷ []), gives (starts 0x4E01 0 3 ∷ starts 0xA1 3 2 ∷ ends 0xA1 3 ∷ ends 0x4E01 0 ∷ []) asksForMore (finishes ∷ []) (doneAt fresh 5))
-    -- D10: End Session, then raw 81
-    ∷ (lent idsAllowed (0x4E ∷ 0x01 ∷ 0xFF ∷ 0x81 ∷ 0x80 ∷ []), gives (starts 0x4E01 0 3 ∷ ends 0x4E01 0 ∷ raw 0x81 3 5 5 2 ∷ []) asksForMore (finishes ∷ []) (doneAt idsAllowed 5))
+    ∷ (lent fresh (0x4E ∷ 0x01 ∷ 0x81 ∷ 0xA1 ∷ 0xFF ∷ []), gives (starts 0x4E01 0 3 ∷ starts 0xA1 3 2 ∷ ends 0xA1 3 0 ∷ ends 0x4E01 0 1 ∷ []) asksForMore (finishes ∷ []) (doneAt fresh 5))
+    -- D10: End Session, then raw 81, which is no child of it
+    ∷ (lent idsAllowed (0x4E ∷ 0x01 ∷ 0xFF ∷ 0x81 ∷ 0x80 ∷ []), gives (starts 0x4E01 0 3 ∷ ends 0x4E01 0 0 ∷ raw 0x81 3 5 5 2 ∷ []) asksForMore (finishes ∷ []) (doneAt idsAllowed 5))
     -- D11: 3FF0000000000000
-    ∷ (lent fresh (0xA6 ∷ 0x84 ∷ 0x3F ∷ 0x80 ∷ 0x00 ∷ 0x00 ∷ []), gives (float 0xA6 0 0x3FF0_0000_0000_0000 6 ∷ []) asksForMore (ends 0xA1 0 ∷ ends 0x4E01 0 ∷ finishes ∷ []) (doneAt fresh 6))
+    ∷ (lent fresh (0xA6 ∷ 0x84 ∷ 0x3F ∷ 0x80 ∷ 0x00 ∷ 0x00 ∷ []), gives (float 0xA6 0 0x3FF0_0000_0000_0000 6 ∷ []) asksForMore (ends 0xA1 0 1 ∷ ends 0x4E01 0 0 ∷ finishes ∷ []) (doneAt fresh 6))
     -- D12, signed: -33 is DF, 200 is 40 C8, -200 is 7F 38, -1 is FF
     ∷ (signed (negsuc 32), writes 1 (0xDF ∷ 0 ∷ []))
     ∷ (signed (pos 200), writes 2 (0x40 ∷ 0xC8 ∷ []))

@@ -209,6 +209,11 @@ pub tied-after : (es ps : List ℕ) → checkTable es ps ≡ Passed → (cs : Li
     → Tied (tableOf es ps) (recordAfter es ps cs) (startsOpen (tableOf es ps) (history es ps cs)) (parentsLeft ps (tableOf es ps) (history es ps cs)) (position (history es ps cs))
 tied-after es ps checked cs l = known es ps checked cs l .tied
 
+-- the parents that a call after any calls implies are those that a caller can tell
+pub parents-after : (es ps : List ℕ) → checkTable es ps ≡ Passed → (cs : List Call) → Lent cs → (c : Call) → Octets (lent c)
+    → impliedBy ps (noteOf es ps (recordAfter es ps cs) c) ≡ seenParents ps (tableOf es ps) (history es ps cs) (lent c) (responseTo es ps (recordAfter es ps cs) c)
+parents-after es ps checked cs l c byte = parents-seen es ps checked cs (known es ps checked cs l) c byte
+
 -- after any calls the record has settled where a caller can tell so
 pub settled-after : (es ps : List ℕ) → checkTable es ps ≡ Passed → (cs : List Call) → Lent cs → recordAfter es ps cs .settled ≡ hasSettled (tableOf es ps) (history es ps cs)
 settled-after es ps checked cs l = known es ps checked cs l .settled

@@ -67,7 +67,7 @@ pub record CutExamples : Type 0 where
   pub padded-cut : readBy (3 ∷ 2 ∷ 3 ∷ 4 ∷ 0 ∷ 0 ∷ []) (take 12 (d1 ++ void)) ≡ (Finished, Number 12, 12, true)
   -- looks whole: D1 without its first three bytes, a Feed alone; its Session, implied, has an End at 0 and had no Start
   pub front-missing : readBy (2 ∷ 3 ∷ 4 ∷ 0 ∷ 0 ∷ []) (drop 3 d1) ≡ (Finished, Number 9, 9, true)
-  pub front-end : readBy (2 ∷ 3 ∷ 4 ∷ 0 ∷ []) (drop 3 d1) ≡ (Event (End (record { id = 0x4E01; offset = 0 })), Number 9, 9, true)
+  pub front-end : readBy (2 ∷ 3 ∷ 4 ∷ 0 ∷ []) (drop 3 d1) ≡ (Event (End (record { id = 0x4E01; offset = 0; count = 1 })), Number 9, 9, true)
   -- D9, a Start of unknown size: the finish comes past the end of the last element at the top
   pub unknown-size : readBy (3 ∷ 2 ∷ 0 ∷ 0 ∷ []) d9 ≡ (Finished, Number 4, 5, false)
   -- looks whole: the child-size test off, and a Feed that ends at 7 cut at 5

@@ -26,7 +26,7 @@ use Rattle.table.proofs.Rules.{master-is}
 use Rattle.table.specs.Passed.{PassedTable}
 use Rattle.table.proofs.Consequences.{master-of-ids, path-masters}
 use Rattle.spec_util.specs.declared.types.OpenTag.{OpenTag}
-use Rattle.tag_parse.proofs.Headers.{header-sound, header-spec, known-small}
+use Rattle.tag_parse.proofs.Headers.{header-sound, header-long, header-spec, known-small}
 use Rattle.tag_parse.specs.Header.{readHeader}
 use Rattle.tag_parse.specs.Payload.{valueOf, floatOr21}
 use Rattle.tag_parse.specs.declared.types.EBMLSize.{EBMLSize}
@@ -158,6 +158,7 @@ pub record Heads (t : List Entry) (s : List ℕ) (x : ℕ) : Type 0 where
 pub record Starts (t : List Entry) (d : TagDecoder) (s : List ℕ) (x : ℕ) (z : EBMLSize) (len : ℕ) : Type 0 where
   pub heads : Heads t s x
   pub alone : HeaderAlone t s len
+  pub some : 0 < len
   pub reading : Reading d
   pub settled : d .settled ≡ true
   pub master : dataTypeOf t x ≡ type.Master
@@ -171,6 +172,7 @@ pub record Holds (t : List Entry) (d : TagDecoder) (s : List ℕ) (x : ℕ) (v :
   pub reading : Reading d
   pub kind : valueKind v ≡ dataTypeOf t x
   pub whole : WholeData t s (d .position) n v
+  pub some : 0 < n
   pub end : declaredEnd t (d .position) s ≡ Number (d .position + n)
   pub inside : Inside d (d .position + n)
 
@@ -227,6 +229,7 @@ module _ (t : List Entry) (d : TagDecoder) (s : List ℕ) (byte : Octets s) (h :
     start-facts v k settled = record {
       heads = its-head;
       alone = record { its = h; read = is; no-more = refl };
+      some = omega (arith, header-long (header-sound t s h byte is));
       reading = reading;
       settled = settled;
       master = sym (header-spec t s h is .kind) ∙ master-is (h .kind) k;
@@ -244,6 +247,7 @@ module _ (t : List Entry) (d : TagDecoder) (s : List ℕ) (byte : Octets s) (h :
           reading = reading;
           kind = k ∙ header-spec t s h is .kind;
           whole = record { its = h; read = is; size = n; known = has .known; count = refl; within = l; value = e };
+          some = omega (arith, header-long (header-sound t s h byte is));
           end = end-is ∙ ap (endAfter (d .position + h .len)) (has .known) ∙ ap Number a;
           inside = inside-size (has .at .valid) (Known n) (has .known);
         }

@@ -13,7 +13,7 @@ use Rattle.table.specs.Shape.{goodShape}
 use Rattle.table.specs.Table.{tableOf, partsOf, partsIn}
 use Rattle.table.specs.declared.types.PathPart.{PathPart}
 use Rattle.spec_util.specs.declared.types.OpenTag.{OpenTag}
-use Rattle.decoder_rules.specs.Record.{fresh, withSettings, withOpen, withWaiting, withNotes, settledTo, opened, closedTo, handedOut, withSizesGrown}
+use Rattle.decoder_rules.specs.Record.{fresh, withSettings, withOpen, withWaiting, withNotes, settledTo, counted, opened, closedTo, handedOut, withSizesGrown}
 use Rattle.decoder_rules.specs.OneCall.{checkRecord10to12, noted}
 use Rattle.decoder_rules.specs.Deciding.{decide}
 use Rattle.decoder_rules.specs.Moving.{move, apply, decode, masterAt}
@@ -31,6 +31,7 @@ use Rattle.decoder_rules.specs.declared.types.Optional.{Optional}
 use Rattle.decoder_rules.specs.declared.types.Optional.the-variants.{Nothing, Number}
 use Rattle.decoder_rules.specs.declared.types.Settings.{Settings}
 use Rattle.decoder_rules.specs.declared.types.TagDecoder.{TagDecoder}
+use Rattle.decoder_rules.proofs.Counting.{counted-arrays, counted-clean}
 use Rattle.decoder_rules.proofs.EmptyPlacesZero.{Clean, fresh-clean, with-notes-clean, settled-clean, opened-clean, closed-clean, handed-clean, grown-clean}
 use Rattle.decoder_rules.proofs.EndExits as end
 use Rattle.decoder_rules.proofs.EndExits.{EndExit, EofExit, eof-exits}
@@ -110,6 +111,15 @@ module _ (d : TagDecoder) (k : Tidy d) where
     few-waiting = omega (arith, k .few-waiting);
   }
 
+  counted-tidy : Tidy (counted d)
+  unfolding counted withOpen
+  counted-tidy = record {
+    arrays = counted-arrays d (k .arrays);
+    clean = counted-clean d (k .arrays) (k .clean) (k .few-open);
+    few-open = k .few-open;
+    few-waiting = k .few-waiting;
+  }
+
   grown-tidy : (n : ℕ) → Tidy (withSizesGrown d n)
   unfolding withSizesGrown withOpen
   grown-tidy n = record {
@@ -126,15 +136,15 @@ module _ (d : TagDecoder) (k : Tidy d) where
   noted-tidy ps (Settle path) f = settled-tidy (partsIn (partsOf ps) path) f
 
 move-tidy : (d : TagDecoder) → Tidy d → (n : ℕ) (a : Action) → ActionApplies d n a → Tidy (move d a .state)
-unfolding move ActionApplies withNotes
+unfolding move ActionApplies counted withOpen withNotes
 move-tidy d k n (act.Refuse e) f = k
 move-tidy d k n (act.NeedMore missing) f = k
 move-tidy d k n act.Finish f = k
 move-tidy d k n act.HandOut f = handed-tidy d k
 move-tidy d k n (act.Close i) f = closed-tidy d k i (omega (arith, f .0))
 move-tidy d k n (act.Start x z len) f =
-    opened-tidy _ (notes-tidy d k (d .position + len) (d .settled) (d .finished)) (masterAt x z (d .position) len) (f .0)
-move-tidy d k n (act.Data x v m) f = notes-tidy d k (d .position + m) (d .settled) (d .finished)
+    opened-tidy _ (counted-tidy _ (notes-tidy d k (d .position + len) (d .settled) (d .finished))) (masterAt x z (d .position) len) (f .0)
+move-tidy d k n (act.Data x v m) f = counted-tidy _ (notes-tidy d k (d .position + m) (d .settled) (d .finished))
 
 -- ---- decode, and the end of input
 

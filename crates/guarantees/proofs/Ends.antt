@@ -3,7 +3,7 @@
 use Prim.Native.Nat.{ℕ, suc, _+_, _-_, _≤_, _<_}
 use mathlib.Core.Path.{_≡_, refl, sym, ap, _∙_, subst}
 use mathlib.Core.Bool.{Bool, true, false, cond, not, _&&_, false≢true}
-use mathlib.Core.List.{List, [], _∷_, reverse, reverse-append, reverse-reverse, reverse-cons}
+use mathlib.Core.List.{List, [], _∷_, reverse, reverse-append, reverse-reverse}
 use native.Mathlib.Numerals.{add-one}
 use native.Mathlib.Omega.{arith}
 use lib.Dec.{leb}
@@ -19,7 +19,7 @@ use Rattle.decoder_rules.specs.declared.types.Optional.{Optional}
 use Rattle.decoder_rules.specs.declared.types.Optional.the-variants.{Nothing, Number}
 use Rattle.decoder_rules.specs.declared.types.TagDecoder.{TagDecoder}
 use Rattle.basics.proofs.Bools.{and-both, both}
-use Rattle.basics.proofs.Every.{every-append}
+use Rattle.basics.proofs.Every.{every-reversed}
 use Rattle.guarantees.specs.History.{firstEnd}
 
 -- an end, if it is known
@@ -42,14 +42,6 @@ abbrev pub FullBatch : TagDecoder → ℕ → Type 0
 FullBatch d k = endedBy (d .position) (firstKnown (drop k (opens d))) ≡ true
 
 -- ---- tests and lists
-
--- what passes a test from the front passes it from the back
-pub every-reversed : {A : Type 0} (test : A → Bool) (l : List A) → every test l ≡ true → every test (reverse l) ≡ true
-unfolding every
-every-reversed test [] e = refl
-every-reversed test (a ∷ l) e =
-    let b = both (test a) (every test l) e in
-    rw (reverse-cons a l) (every-append test (reverse l) (a ∷ []) (every-reversed test l (b .right)) (and-both (b .left) refl))
 
 -- the last n of a list, innermost first
 pub take-reversed : {A : Type 0} (l : List A) (n : ℕ) → take (length l - n) (reverse l) ≡ reverse (drop n l)

@@ -13,7 +13,7 @@ use Rattle.table.specs.Table.{Entry, tableOf, dataTypeOf}
 use Rattle.basics.proofs.Every.{every-member}
 use Rattle.tag_parse.proofs.Headers.{header-spec}
 use Rattle.tag_parse.specs.declared.types.TagValue.{TagValue}
-use Rattle.decoder_rules.specs.Record.{opens}
+use Rattle.decoder_rules.specs.Record.{opens, waits}
 use Rattle.decoder_rules.specs.Numbers.{errorNumber}
 use Rattle.decoder_rules.specs.declared.types.Answer.the-variants as answer
 use Rattle.decoder_rules.specs.declared.types.DecodeError.{DecodeError}
@@ -30,7 +30,7 @@ use Rattle.decoder_rules.specs.Settings.{isFinished}
 use Rattle.guarantees.specs.Calls.{Call, decoding, ending, recovering, allow, limit, lent, Response, answered, searched, silent, responseTo, recordAfter, history, Lent, refusalOf}
 use Rattle.guarantees.specs.History.{Started, declaredEnd, afterResponse, afterDeclared, startsOpen, startsDeclared, parentsLeft, position, testAfter, childTestOn, childTestNeverOff, isNoRecovery, neverRecovered}
 use Rattle.guarantees.specs.Promises.{eventKind, eventId, elementOffset, Runs, lastResponse, Answers, openAt, leftAt, positionAt, HeaderOf, HeaderAlone, WholeData, EndMatches, EndsInside}
-use Rattle.guarantees.proofs.Tied.{parentOf, asEnd, asStarted, stack, Tied}
+use Rattle.guarantees.proofs.Tied.{parentOf, asEnd, named, asStarted, stack, Tied}
 use Rattle.guarantees.proofs.Steps.{reachesTo, allReach, Ends, ElementFacts, EventFacts, RefusalFacts, no-starts}
 use Rattle.guarantees.proofs.AnyCalls.{ResponseFacts, MeasuredResponse, tied-after, promised-after, test-after}
 
@@ -202,7 +202,7 @@ module _ (es ps : List ℕ) (cs : List Call) (run : Runs es ps cs) where
   arrays-hold =
       let d = recordAfter es ps cs in
       let k = tied-now .linked in
-      let w : length (map asEnd (k .ended)) ≡ d .«waiting_count» = ap length (k .waiting) ∙ waits-length d (k .arrays) (k .good .waiting-count) in
+      let w : length (map asEnd (k .ended)) ≡ d .«waiting_count» = ap length (k .waiting) ∙ length-map (waits d) named ∙ waits-length d (k .arrays) (k .good .waiting-count) in
       let o : length (opens d) ≡ d .«open_count» = opens-length d (k .arrays) (k .good .open-count) in
       let m : length (map asStarted (reverse (opens d))) ≡ length (opens d) = simp (length-map, length-reverse) in
       omega (arith, k .few, ap length (k .parts), length-append (k .ended) (map asStarted (reverse (opens d))), length-map (k .ended) asEnd)

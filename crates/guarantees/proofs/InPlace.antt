@@ -13,7 +13,7 @@ use lib.ListN.{length, take, drop, length-append, length-map}
 use lib.Seq.{take-at, drop-at}
 use Rattle.basics.specs.Lists.{every, firstIndex}
 use Rattle.basics.proofs.Bools.{both, and-both, cond-yes, cond-no, not-false}
-use Rattle.basics.proofs.Every.{every-append, every-other}
+use Rattle.basics.proofs.Every.{every-append, every-other, every-reversed}
 use Rattle.tools.specs.Bytes.{beFrom, beBytes}
 use Rattle.tools.specs.Integer.{integerOf}
 use Rattle.tools.specs.Vint.{IsVint, readVint}
@@ -48,7 +48,7 @@ use Rattle.tag_parse.proofs.Cases.{header-sized, not-long, long-by-kind}
 use Rattle.tag_parse.proofs.Ids.{id-complete}
 use Rattle.decoder_rules.specs.Moving.{move, apply, decode}
 use Rattle.decoder_rules.specs.OneCall.{goodOpen, check10to12, checkRecord10to12, check13, isFull, settles, step7, noted, step8, reaches, step9, endedTops}
-use Rattle.decoder_rules.specs.Record.{farthest, opens, firstSettings, atPosition, implied, settledTo, opened}
+use Rattle.decoder_rules.specs.Record.{farthest, opens, firstSettings, atPosition, implied, settledTo, oneMore, counted, opened}
 use Rattle.decoder_rules.specs.declared.types.Action.{Action}
 use Rattle.decoder_rules.specs.declared.types.Action.the-variants as act
 use Rattle.decoder_rules.specs.declared.types.Answer.the-variants as answer
@@ -61,13 +61,14 @@ use Rattle.decoder_rules.specs.declared.types.Settings.{Settings}
 use Rattle.decoder_rules.specs.declared.types.TagDecoder.{TagDecoder}
 use Rattle.decoder_rules.proofs.Exits.{fitsInside, isTooLarge, AtElement, HeaderExit, starts, holds, AtHeader, on-header, exit-decides}
 use Rattle.decoder_rules.proofs.GoodState.{GoodState, is-good-state, is-good-open}
+use Rattle.decoder_rules.proofs.Counting.{counted-settings, counted-notes, counted-count, counted-waiting-count, counted-arrays, counted-map, counted-every, counted-good}
 use Rattle.decoder_rules.proofs.MoveEffects.{Arrays, opens-length, settled-settings, settled-finished, settled-opens, settled-waiting-count, settled-arrays, opened-settings, opened-notes, opened-opens, opened-waiting-count, opened-arrays, with-notes-settings, with-notes-position, with-notes-finished, with-notes-opens, with-notes-count, with-notes-waiting-count, with-notes-arrays}
 use Rattle.decoder_rules.proofs.MoveLaws.{noted-position}
-use Rattle.decoder_rules.proofs.MovesKeepGoodState.{settled-good, with-notes-good, opened-good}
+use Rattle.decoder_rules.proofs.MovesKeepGoodState.{settled-good, opened-good}
 use Rattle.guarantees.specs.Appearing.{emptyValue, emptyEvent}
 use Rattle.guarantees.proofs.AnyCalls.{good-shape}
 use Rattle.guarantees.proofs.Decided.{is-master}
-use Rattle.guarantees.proofs.Ends.{every-reversed, unknown}
+use Rattle.guarantees.proofs.Ends.{unknown}
 use Rattle.decoder_rules.proofs.Places.{settled-step7}
 
 -- ---- the header: an ID and one octet of size
@@ -365,35 +366,55 @@ module _ (es ps : List ℕ) (checked : checkTable es ps ≡ Passed) (x : ℕ) (t
 
 -- ---- a Start, and the record that it leaves
 
+-- the record at p, where a child of the innermost master was counted
+abbrev movedOn : TagDecoder → ℕ → TagDecoder
+movedOn d p = counted (atPosition d p)
+
 module _ (d : TagDecoder) (p : ℕ) (calm : Calm d) (room : d .«open_count» < mostOpen) where
-  -- the record at p has its places
-  arrays-at : Arrays (atPosition d p)
-  arrays-at = with-notes-arrays d (calm .arrays) p (d .settled) (d .finished)
+  arrays-there : Arrays (atPosition d p)
+  arrays-there = with-notes-arrays d (calm .arrays) p (d .settled) (d .finished)
+
+  few-there : atPosition d p .«open_count» ≤ mostOpen
+  few-there = omega (arith, with-notes-count d p (d .settled) (d .finished))
+
+  -- it has its places
+  arrays-at : Arrays (movedOn d p)
+  arrays-at = counted-arrays (atPosition d p) arrays-there
 
   -- and room
-  room-at : atPosition d p .«open_count» < mostOpen
-  room-at = omega (arith, with-notes-count d p (d .settled) (d .finished))
+  room-at : movedOn d p .«open_count» < mostOpen
+  room-at = omega (arith, counted-count (atPosition d p), with-notes-count d p (d .settled) (d .finished))
+
+  -- the same masters are open
+  ids-at : idsOf (opens (movedOn d p)) ≡ idsOf (opens d)
+  unfolding oneMore
+  ids-at = counted-map (atPosition d p) arrays-there few-there (λ (m : OpenTag). m .id) (λ m. refl) ∙ ap idsOf (with-notes-opens d p (d .settled) (d .finished))
+
+  -- none of known size
+  sizes-at : every unknown (opens (movedOn d p)) ≡ true
+  unfolding oneMore
+  sizes-at = counted-every (atPosition d p) arrays-there few-there unknown unknown (λ m f. f) (λ m f. f) (rw (with-notes-opens d p (d .settled) (d .finished)) (calm .sizes))
 
   -- a master more stands above the others
-  opened-at : (m : OpenTag) → opens (opened (atPosition d p) m) ≡ opens d ++ (m ∷ [])
-  opened-at m =
-      opened-opens (atPosition d p) m (omega (arith, arrays-at .masters, room-at))
-      ∙ ap (λ (l : List OpenTag). l ++ (m ∷ [])) (with-notes-opens d p (d .settled) (d .finished))
+  opened-at : (m : OpenTag) → opens (opened (movedOn d p) m) ≡ opens (movedOn d p) ++ (m ∷ [])
+  opened-at m = opened-opens (movedOn d p) m (omega (arith, arrays-at .masters, room-at))
 
   -- with one of unknown size the record is as calm
-  opened-calm : (x q : ℕ) → d .position ≤ p → p ≤ farthest → Calm (opened (atPosition d p) (openTag x false 0 q p))
+  opened-calm : (x q : ℕ) → d .position < p → p ≤ farthest → Calm (opened (movedOn d p) (openTag x false 0 q p))
   unfolding every
   opened-calm x q later near =
-      let e = atPosition d p in
+      let c = atPosition d p in
+      let e = movedOn d p in
       let m = openTag x false 0 q p in
-      let starts : goodOpen p m ≡ true = is-good-open p m (record { start = omega arith; size = λ k. absurd (false≢true k) }) in
+      let starts : goodOpen p m ≡ true = is-good-open p m (record { start = omega arith; size = λ k. absurd (false≢true k); count = omega arith }) in
+      let place : e .position ≡ p = counted-notes c .position ∙ with-notes-position d p (d .settled) (d .finished) in
       record {
         arrays = opened-arrays e arrays-at m;
-        good = opened-good e (with-notes-good d (calm .good) p (d .settled) (d .finished) later near) arrays-at m room-at (rw (with-notes-position d p (d .settled) (d .finished)) starts);
-        settings = opened-settings e m ∙ with-notes-settings d p (d .settled) (d .finished) ∙ calm .settings;
-        none-waiting = opened-waiting-count e m ∙ with-notes-waiting-count d p (d .settled) (d .finished) ∙ calm .none-waiting;
-        unfinished = opened-notes e m .finished ∙ with-notes-finished d p (d .settled) (d .finished) ∙ calm .unfinished;
-        sizes = rw (opened-at m) (every-append unknown (opens d) (m ∷ []) (calm .sizes) refl);
+        good = opened-good e (counted-good d (calm .good) (calm .arrays) p later near) arrays-at m room-at (subst (λ (k : ℕ). goodOpen k m ≡ true) (sym place) starts);
+        settings = opened-settings e m ∙ counted-settings c ∙ with-notes-settings d p (d .settled) (d .finished) ∙ calm .settings;
+        none-waiting = opened-waiting-count e m ∙ counted-waiting-count c ∙ with-notes-waiting-count d p (d .settled) (d .finished) ∙ calm .none-waiting;
+        unfinished = opened-notes e m .finished ∙ counted-notes c .finished ∙ with-notes-finished d p (d .settled) (d .finished) ∙ calm .unfinished;
+        sizes = rw (opened-at m) (every-append unknown (opens e) (m ∷ []) sizes-at refl);
       }
 
 -- a call at the position p told the Start of x and took n bytes, and its record stands inside x
@@ -404,16 +425,18 @@ pub record Opens (t : List Entry) (p : ℕ) (r : Decoded) (x n : ℕ) : Type 0 w
   pub place : r .state .position ≡ p + n
 
 -- the Start of a master of unknown size is such
-start-opens : (t : List Entry) (d : TagDecoder) (x n : ℕ) → Placed t d x → d .«open_count» < mostOpen → d .position + n ≤ farthest → Opens t (d .position) (move d (act.Start x Unknown n)) x n
+start-opens : (t : List Entry) (d : TagDecoder) (x n : ℕ) → Placed t d x → d .«open_count» < mostOpen → 0 < n → d .position + n ≤ farthest → Opens t (d .position) (move d (act.Start x Unknown n)) x n
 unfolding move
-start-opens t d x n p room near =
+start-opens t d x n p room some near =
     let q = d .position + n in
     let m = openTag x false 0 (d .position) q in
     record {
       told = record { answer = refl; taken = refl };
       calm = opened-calm d q (p .calm) room x (d .position) (omega arith) near;
-      masters = ap idsOf (opened-at d q (p .calm) room m) ∙ map-append (λ (m : OpenTag). m .id) (opens d) (m ∷ []) ∙ ap (λ (l : List ℕ). l ++ (x ∷ [])) (p .masters);
-      place = opened-notes (atPosition d q) m .position ∙ with-notes-position d q (d .settled) (d .finished);
+      masters =
+          ap idsOf (opened-at d q (p .calm) room m) ∙ map-append (λ (m : OpenTag). m .id) (opens (movedOn d q)) (m ∷ [])
+          ∙ ap (λ (l : List ℕ). l ++ (x ∷ [])) (ids-at d q (p .calm) room ∙ p .masters);
+      place = opened-notes (movedOn d q) m .position ∙ counted-notes (atPosition d q) .position ∙ with-notes-position d q (d .settled) (d .finished);
     }
 
 -- a Master of unknown size starts
@@ -423,7 +446,7 @@ pub master-told : (es ps : List ℕ) → checkTable es ps ≡ Passed → (x n : 
 unfolding isTyped
 master-told es ps checked x n octets i master d rest before near =
     subst (λ (a : Decoded). Opens t (d .position) a x (n + 1)) (sym q)
-    (subst (λ (k : ℕ). Opens t k (move e (act.Start x Unknown (n + 1))) x (n + 1)) place (start-opens t e x (n + 1) p (r .room) (omega (arith, place, long))))
+    (subst (λ (k : ℕ). Opens t k (move e (act.Start x Unknown (n + 1))) x (n + 1)) place (start-opens t e x (n + 1) p (r .room) (omega arith) (omega (arith, place, long))))
   where
     t : List Entry
     t = tableOf es ps

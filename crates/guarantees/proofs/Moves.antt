@@ -1,10 +1,10 @@
 -- Each move of the record keeps what ties it to what a caller can tell. Assumes nothing.
 use Prim.Native.Nat.{ℕ, suc, _+_, _≤_, _<_}
-use mathlib.Core.Path.{_≡_, refl, sym, ap, _∙_}
+use mathlib.Core.Path.{_≡_, refl, sym, ap, _∙_, subst}
 use mathlib.Core.Bool.{Bool, true, false, true≢false}
 use mathlib.Core.List.{List, [], _∷_, _++_, map, reverse, append-nil, map-append, map-map, reverse-append, reverse-cons}
 use native.Mathlib.Omega.{arith}
-use lib.ListN.{length, getD, take, drop, length-map, length-reverse, length-drop, take-append-drop}
+use lib.ListN.{length, getD, take, drop, length-map, length-reverse, length-drop, take-append-drop, List·getD-map}
 use lib.Seq.{getD-take, drop-cons}
 use Rattle.basics.specs.Lists.{every}
 use Rattle.table.specs.Table.{Entry, dataTypeOf, isMaster}
@@ -12,7 +12,7 @@ use Rattle.table.specs.declared.types.PathPart.{PathPart}
 use Rattle.table.specs.declared.types.PathPart.the-variants.{Id, Global}
 use Rattle.spec_util.specs.declared.types.OpenTag.{OpenTag}
 use Rattle.spec_util.specs.Walk.{mostOpen, noTag}
-use Rattle.decoder_rules.specs.Record.{farthest, opens, endOf, endFor, noEnd, implied, withSettings, withOpen, withWaiting, withNotes, settledTo, opened, endsFrom, closedTo, handedOut, sizeGrown, withSizesGrown, waits}
+use Rattle.decoder_rules.specs.Record.{farthest, opens, endOf, endFor, noEnd, implied, withSettings, withOpen, withWaiting, withNotes, atPosition, settledTo, oneMore, counted, opened, endsFrom, closedTo, handedOut, sizeGrown, withSizesGrown, waits}
 use Rattle.decoder_rules.specs.OneCall.{goodOpen}
 use Rattle.decoder_rules.specs.declared.types.Optional.{Optional}
 use Rattle.decoder_rules.specs.declared.types.Optional.the-variants.{Number}
@@ -20,15 +20,16 @@ use Rattle.decoder_rules.specs.declared.types.Settings.{Settings}
 use Rattle.decoder_rules.specs.declared.types.WaitingEnd.{WaitingEnd}
 use Rattle.decoder_rules.specs.declared.types.TagDecoder.{TagDecoder}
 use Rattle.decoder_rules.proofs.GoodState.{GoodState}
-use Rattle.basics.proofs.Every.{every-append, every-take, every-map}
+use Rattle.basics.proofs.Every.{every-append, every-take, every-map, every-reversed}
 use Rattle.basics.proofs.Bools.{and-both, both, pick}
 use Rattle.decoder_rules.proofs.MoveEffects.{opens-length, waits-length, with-notes-arrays, settled-opens, settled-arrays, opened-opens, opened-arrays, closed-opens, closed-waits, closed-arrays, handed-waits, handed-arrays, grown-opens, grown-arrays}
+use Rattle.decoder_rules.proofs.Counting.{counted-map, counted-every, counted-arrays, counted-good}
 use Rattle.decoder_rules.proofs.MovesKeepGoodState.{with-notes-good, settled-good, opened-good, closed-good, handed-good}
 use Rattle.guarantees.specs.History.{Started, laterEnd, later, leftByEnd}
 use Rattle.guarantees.specs.Promises.{EndMatches}
-use Rattle.guarantees.proofs.Ends.{knownEnd, every-reversed}
+use Rattle.guarantees.proofs.Ends.{knownEnd}
 use Rattle.decoder_rules.proofs.Exits.{allMasters}
-use Rattle.guarantees.proofs.Tied.{asStarted, parentOf, asEnd, stack, allStarted, Linked, map-same, popped, none-open, both-empty}
+use Rattle.guarantees.proofs.Tied.{asStarted, parentOf, asEnd, named, stack, allStarted, Linked, map-same, popped, none-open, both-empty}
 
 -- ---- settings, and the position
 
@@ -38,7 +39,7 @@ module _ (t : List Entry) (d : TagDecoder) (starts : List Started) (left : List 
   unfolding withSettings
   settings-linked s = record {
     arrays = record { masters = k .arrays .masters; ends = k .arrays .ends };
-    good = record { open-count = k .good .open-count; waiting-count = k .good .waiting-count; place = k .good .place; masters = k .good .masters };
+    good = record { open-count = k .good .open-count; waiting-count = k .good .waiting-count; place = k .good .place; masters = k .good .masters; ends = k .good .ends };
     masters = k .masters;
     ended = k .ended;
     waiting = k .waiting;
@@ -67,7 +68,12 @@ module _ (t : List Entry) (d : TagDecoder) (starts : List Started) (left : List 
 
 -- ---- lists
 
-map-reversed : {A B : Type 0} (f : A → B) (l : List A) → map f (reverse l) ≡ reverse (map f l)
+map-dropped : {A B : Type 0} (f : A → B) (l : List A) → drop 1 (map f l) ≡ map f (drop 1 l)
+map-dropped f [] = refl
+map-dropped f (a ∷ l) = refl
+
+-- a list from its other end
+pub map-reversed : {A B : Type 0} (f : A → B) (l : List A) → map f (reverse l) ≡ reverse (map f l)
 map-reversed f [] = refl
 map-reversed f (a ∷ l) = ap (map f) (reverse-cons a l) ∙ map-append f (reverse l) (a ∷ []) ∙ ap (λ (k : List _). k ++ (f a ∷ [])) (map-reversed f l) ∙ sym (reverse-cons (f a) (map f l))
 
@@ -77,7 +83,31 @@ no-ends (m ∷ l) e = let z : _≡_ {A = ℕ} 0 1 = cc in absurd (omega arith)
 
 -- nothing waits
 pub none-ended : {t : List Entry} {d : TagDecoder} {starts : List Started} {left : List ℕ} {p : ℕ} (k : Linked t d starts left p) → d .«waiting_count» ≡ 0 → k .ended ≡ []
-none-ended {d = d} k e = no-ends (k .ended) (k .waiting ∙ ap (λ (n : ℕ). take n (d .waiting)) e)
+none-ended {d = d} k e = no-ends (k .ended) (k .waiting ∙ ap (λ (n : ℕ). map named (take n (d .waiting))) e)
+
+-- ---- a Start or a Data counts
+
+-- an element of at least one byte is taken, and counts in the innermost open master
+pub counted-linked : (t : List Entry) (d : TagDecoder) (starts : List Started) (left : List ℕ) (p : ℕ) → Linked t d starts left p → (q : ℕ) → d .position < q → q ≤ farthest
+    → Linked t (counted (atPosition d q)) starts left q
+unfolding counted withOpen withNotes oneMore
+counted-linked t d starts left p k q h l =
+    let e = atPosition d q in
+    let arrays = with-notes-arrays d (k .arrays) q (d .settled) (d .finished) in
+    let same : map asStarted (reverse (opens (counted e))) ≡ map asStarted (reverse (opens d)) =
+    map-reversed asStarted (opens (counted e)) ∙ ap reverse (counted-map e arrays (k .good .open-count) asStarted (λ m. refl)) ∙ sym (map-reversed asStarted (opens d)) in
+    record {
+      arrays = counted-arrays e arrays;
+      good = counted-good d (k .good) (k .arrays) q h l;
+      masters = counted-every e arrays (k .good .open-count) _ _ (λ m f. f) (λ m f. f) (k .masters);
+      ended = k .ended;
+      waiting = k .waiting;
+      parts = k .parts ∙ ap (λ (r : List Started). k .ended ++ r) (sym same);
+      kinds = k .kinds;
+      few = k .few;
+      place = refl;
+      unsettled = k .unsettled;
+    }
 
 -- ---- settling
 
@@ -157,36 +187,41 @@ cons-settled e f = let z : _≡_ {A = ℕ} 0 1 = cc in omega arith
 module _ (t : List Entry) (d : TagDecoder) (starts : List Started) (left : List ℕ) (p : ℕ) (k : Linked t d starts left p) where
   -- what of the invariant is the same after any End
   module _ (m : Started) (rest : List Started) (e : stack starts left ≡ m ∷ rest) where
+    left-is : stack (drop 1 starts) (leftByEnd starts left) ≡ rest
+    left-is = popped starts left m rest (record { id = m .id; offset = m .offset; count = 0 }) e refl .1
+
     kinds-left : allStarted t (stack (drop 1 starts) (leftByEnd starts left)) ≡ true
     unfolding every
-    kinds-left = rw (popped starts left m rest e .1) (both (isMaster (dataTypeOf t (m .id))) (allStarted t rest) (rw e at (k .kinds)) .right)
+    kinds-left = rw left-is (both (isMaster (dataTypeOf t (m .id))) (allStarted t rest) (rw e at (k .kinds)) .right)
 
     kind-first : isMaster (dataTypeOf t (m .id)) ≡ true
     unfolding every
     kind-first = both (isMaster (dataTypeOf t (m .id))) (allStarted t rest) (rw e at (k .kinds)) .left
 
     few-left : length (stack (drop 1 starts) (leftByEnd starts left)) ≤ mostOpen
-    few-left = rw (popped starts left m rest e .1) (let h : suc (length rest) ≤ mostOpen = rw e at (k .few) in omega arith)
+    few-left = rw left-is (let h : suc (length rest) ≤ mostOpen = rw e at (k .few) in omega arith)
 
-  handed-go : (ended : List Started) → map asEnd ended ≡ waits d → stack starts left ≡ ended ++ map asStarted (reverse (opens d)) → 0 < d .«waiting_count»
+  handed-go : (ended : List Started) → map asEnd ended ≡ map named (waits d) → stack starts left ≡ ended ++ map asStarted (reverse (opens d)) → 0 < d .«waiting_count»
       → Popped t (handedOut d) starts left p (getD (d .waiting) 0 noEnd)
   unfolding handedOut withWaiting
   handed-go [] w e h =
       let n : length (waits d) ≡ d .«waiting_count» = waits-length d (k .arrays) (k .good .waiting-count) in
-      let z : 0 ≡ length (waits d) = ap length w in
+      let z : 0 ≡ length (waits d) = ap length w ∙ length-map (waits d) named in
       absurd (omega arith)
   handed-go (m ∷ rest) w e h =
-      let first : asEnd m ≡ getD (d .waiting) 0 noEnd = ap (λ (l : List WaitingEnd). getD l 0 noEnd) w ∙ getD-take (d .«waiting_count») (d .waiting) 0 noEnd h in
-      let q = popped starts left m (rest ++ map asStarted (reverse (opens d))) e in
+      let end = getD (d .waiting) 0 noEnd in
+      let first : asEnd m ≡ named end =
+      ap (λ (l : List (ℕ × ℕ)). getD l 0 (named noEnd)) w ∙ List·getD-map named (waits d) 0 noEnd ∙ ap named (getD-take (d .«waiting_count») (d .waiting) 0 noEnd h) in
+      let q = popped starts left m (rest ++ map asStarted (reverse (opens d))) end e (sym first) in
       record {
-        matches = rw (← first) (q .0);
-        master = rw (← first) (kind-first m _ e);
+        matches = q .0;
+        master = subst (λ (x : ℕ). isMaster (dataTypeOf t x) ≡ true) (ap (λ (n : ℕ × ℕ). n .0) first) (kind-first m _ e);
         linked = record {
           arrays = handed-arrays d (k .arrays);
-          good = handed-good d (k .good);
+          good = handed-good d (k .good) (k .arrays);
           masters = k .masters;
           ended = rest;
-          waiting = ap (drop 1) w ∙ sym (handed-waits d (omega (arith, k .arrays .ends, k .good .waiting-count)));
+          waiting = ap (drop 1) w ∙ map-dropped named (waits d) ∙ ap (map named) (sym (handed-waits d (omega (arith, k .arrays .ends, k .good .waiting-count))));
           parts = q .1;
           kinds = kinds-left m _ e;
           few = few-left m _ e;
@@ -225,16 +260,18 @@ module _ (t : List Entry) (d : TagDecoder) (starts : List Started) (left : List 
         ∙ ap (λ (l : List OpenTag). l ++ reverse (take n (opens d))) top-first)
         ∙ map-append asStarted (top ∷ others) (reverse (take n (opens d)))
 
-    its-ends : map asEnd (map asStarted others) ≡ drop 1 (map endFor (reverse (drop n (opens d))))
+    its-ends : map asEnd (map asStarted others) ≡ map named (drop 1 (map endFor (reverse (drop n (opens d)))))
     unfolding endFor
-    its-ends = map-map asEnd asStarted others ∙ sym (ap (λ (l : List OpenTag). drop 1 (map endFor l)) top-first)
+    its-ends =
+        map-map asEnd asStarted others ∙ sym (map-map named endFor others)
+        ∙ sym (ap (λ (l : List OpenTag). map named (drop 1 (map endFor l))) top-first)
 
-    closed-go : Popped t (closedTo d n) starts left p (asEnd (asStarted top))
-    unfolding closedTo withOpen withWaiting
+    closed-go : Popped t (closedTo d n) starts left p (endFor top)
+    unfolding closedTo withOpen withWaiting endFor
     closed-go =
         let l : d .«open_count» ≤ length (d .«open») = omega (arith, k .arrays .masters, k .good .open-count) in
         let rest = map asStarted others ++ map asStarted (reverse (take n (opens d))) in
-        let q = popped starts left (asStarted top) rest all-parts in
+        let q = popped starts left (asStarted top) rest (endFor top) all-parts refl in
         record {
           matches = q .0;
           master = kind-first (asStarted top) rest all-parts;
@@ -243,7 +280,7 @@ module _ (t : List Entry) (d : TagDecoder) (starts : List Started) (left : List 
             good = closed-good d (k .good) (k .arrays) n (omega arith);
             masters = rw (closed-opens d n (omega arith) l) (every-take _ n (opens d) (k .masters));
             ended = map asStarted others;
-            waiting = its-ends ∙ sym (closed-waits d n l);
+            waiting = its-ends ∙ ap (map named) (sym (closed-waits d n l));
             parts = rw (closed-opens d n (omega arith) l) (q .1);
             kinds = kinds-left (asStarted top) rest all-parts;
             few = few-left (asStarted top) rest all-parts;
@@ -254,7 +291,7 @@ module _ (t : List Entry) (d : TagDecoder) (starts : List Started) (left : List 
 
     -- the first of their Ends is handed out
     pub closed-linked : Popped t (closedTo d n) starts left p (getD (endsFrom d n) 0 noEnd)
-    unfolding endsFrom endFor
+    unfolding endsFrom
     closed-linked = rw top-first closed-go
 
 -- ---- a recovery that found a header

@@ -49,7 +49,7 @@ pub record LostStart : Type 0 where
   pub start : lastResponse (globalMaster .0) (globalMaster .1) [] (decoding (0x81 ∷ 0xFF ∷ 0x82 ∷ 0x81 ∷ 0x05 ∷ [])) ≡ answered (Event (Start 0x81 0)) 2
   pub still-open : openAt (globalMaster .0) (globalMaster .1) settled ≡ record { id = 0x81; offset = 0; end = Nothing } ∷ []
   -- promise 3 fails: the last Start still open is that of 81, and the End is that of 84
-  pub end : lastResponse (globalMaster .0) (globalMaster .1) settled (ending []) ≡ answered (Event (End (record { id = 0x84; offset = 0 }))) 0
+  pub end : lastResponse (globalMaster .0) (globalMaster .1) settled (ending []) ≡ answered (Event (End (record { id = 0x84; offset = 0; count = 1 }))) 0
 
 -- `81 FF 84 80`: 84 settles at the root, starts and ends, and the Start of 81 is lost
 abbrev rooted : List Call

@@ -18,7 +18,7 @@ use Rattle.spec_util.specs.declared.types.OpenTag.{OpenTag}
 use Rattle.tag_parse.specs.declared.types.EBMLSize.{EBMLSize}
 use Rattle.tag_parse.specs.declared.types.EBMLSize.the-variants.{Known, Unknown}
 use Rattle.tag_parse.specs.declared.types.TagValue.{TagValue}
-use Rattle.decoder_rules.specs.Record.{opens, endOf, noEnd, withOpen, withWaiting, withNotes, atPosition, settledTo, opened, endsFrom, closedTo, handedOut}
+use Rattle.decoder_rules.specs.Record.{opens, waits, endOf, noEnd, withOpen, withWaiting, withNotes, atPosition, settledTo, counted, opened, endsFrom, closedTo, handedOut}
 use Rattle.decoder_rules.specs.Numbers.{errorNumber}
 use Rattle.decoder_rules.specs.OneCall.{goodOpen, reaches, noted}
 use Rattle.decoder_rules.specs.Deciding.{decide}
@@ -39,7 +39,7 @@ use Rattle.decoder_rules.specs.declared.types.Note.{Note}
 use Rattle.decoder_rules.specs.declared.types.Note.the-variants.{NoNote, Settle}
 use Rattle.decoder_rules.specs.declared.types.Settings.{Settings}
 use Rattle.decoder_rules.specs.declared.types.TagDecoder.{TagDecoder}
-use Rattle.basics.proofs.Every.{every-drop, every-map, every-front}
+use Rattle.basics.proofs.Every.{every-drop, every-map, every-front, every-reversed}
 use Rattle.basics.proofs.Bools.{and-both, both, not-false}
 use Rattle.decoder_rules.proofs.GoodState.{is-good-open}
 use Rattle.decoder_rules.proofs.MoveEffects.{opens-length, waits-length}
@@ -51,11 +51,11 @@ use Rattle.decoder_move.proofs.DecisionApplies.{decide-applies, hands-out, clos
 use Rattle.guarantees.specs.Settling.{impliedBy}
 use Rattle.guarantees.specs.History.{Started, declaredEnd, endAfter, afterAnswer, outermostEnd, leftByAnswer, leftByEnd}
 use Rattle.guarantees.specs.Promises.{valueKind, HeaderAlone, WholeData, EndMatches}
-use Rattle.guarantees.proofs.Ends.{knownEnd, endedBy, every-reversed}
+use Rattle.guarantees.proofs.Ends.{knownEnd, endedBy}
 use Rattle.guarantees.proofs.Decided.{is-master, Mild, Reading, InsideSize, Small, Heads, Starts, Holds, Closes, Facts, NoteFacts, AllFacts, decide-facts}
-use Rattle.guarantees.proofs.Tied.{asStarted, parentOf, asEnd, stack, allEnded, Linked, Tied, both-empty}
+use Rattle.guarantees.proofs.Tied.{asStarted, parentOf, asEnd, named, stack, allEnded, Linked, Tied, both-empty}
 use Rattle.guarantees.proofs.Outermost.{none-batch, batch-less, all-batch, batch-closed}
-use Rattle.guarantees.proofs.Moves.{none-ended, moved-linked, settled-linked, opened-linked, handed-linked, closed-linked}
+use Rattle.guarantees.proofs.Moves.{none-ended, moved-linked, counted-linked, settled-linked, opened-linked, handed-linked, closed-linked}
 
 -- ---- what is promised of an answer
 
@@ -173,8 +173,8 @@ module _ (t : List Entry) (d : TagDecoder) (starts : List Started) (left : List 
 
 module _ (x p len : ℕ) where
   open-good : (z : EBMLSize) → Small z → goodOpen (p + len) (masterAt x z p len) ≡ true
-  open-good Unknown h = is-good-open (p + len) (masterAt x Unknown p len) (record { start = omega arith; size = λ e. absurd (false≢true e) })
-  open-good (Known n) h = is-good-open (p + len) (masterAt x (Known n) p len) (record { start = omega arith; size = λ e. omega arith })
+  open-good Unknown h = is-good-open (p + len) (masterAt x Unknown p len) (record { start = omega arith; size = λ e. absurd (false≢true e); count = omega arith })
+  open-good (Known n) h = is-good-open (p + len) (masterAt x (Known n) p len) (record { start = omega arith; size = λ e. omega arith; count = omega arith })
 
   open-started : (z : EBMLSize) → asStarted (masterAt x z p len) ≡ record { id = x; offset = p; end = endAfter (p + len) z }
   open-started Unknown = refl
@@ -274,12 +274,12 @@ module _ (t : List Entry) (d : TagDecoder) (s : List ℕ) (starts : List Started
       rw e (tested t d starts left (d .position) (k .linked) w (reaches (d .position + (len + n))) (λ m. reachesTo (d .position + (len + n)) (m .end)) (reaches-to (d .position + (len + n))) (i off))
 
   started-called : (x : ℕ) (z : EBMLSize) (len : ℕ) → d .«open_count» < 32 → d .position + len ≤ 2 ^ 62 → Starts t d s x z len
-      → Called t (d .settings .«allow_oversized») s starts left (d .position) (answer.Event (event.Start x (d .position))) len (opened (atPosition d (d .position + len)) (masterAt x z (d .position) len))
-  unfolding opened withOpen withNotes
+      → Called t (d .settings .«allow_oversized») s starts left (d .position) (answer.Event (event.Start x (d .position))) len (opened (counted (atPosition d (d .position + len))) (masterAt x z (d .position) len))
+  unfolding counted opened withOpen withNotes
   started-called x z len few near f =
-      let e = atPosition d (d .position + len) in
+      let e = counted (atPosition d (d .position + len)) in
       let m = masterAt x z (d .position) len in
-      let moved = moved-linked t d starts left (d .position) (k .linked) (d .position + len) (d .finished) (omega arith) near in
+      let taken = counted-linked t d starts left (d .position) (k .linked) (d .position + len) (omega (arith, f .some)) near in
       let is : asStarted m ≡ record { id = x; offset = d .position; end = declaredEnd t (d .position) s } = open-started x (d .position) len z ∙ ap (λ (g : Optional). record { id = x; offset = d .position; end = g }) (sym (f .end)) in
       let master : isMaster (dataTypeOf t (m .id)) ≡ true = rw (open-id x (d .position) len z) (is-master _ (f .master)) in
       record {
@@ -289,7 +289,7 @@ module _ (t : List Entry) (d : TagDecoder) (s : List ℕ) (starts : List Started
         batch = tt;
         tied = record {
           linked = subst (λ (o : Started). Linked t (opened e m) (o ∷ starts) left (d .position + len)) is
-              (opened-linked t e starts left (d .position + len) moved m (f .reading .none-waiting) (f .settled) few (open-good x (d .position) len z (f .small)) master);
+              (opened-linked t e starts left (d .position + len) taken m (f .reading .none-waiting) (f .settled) few (open-good x (d .position) len z (f .small)) master);
           finished = λ g. absurd (true≢false (sym g ∙ f .reading .unfinished));
           full = λ g. absurd (true≢false (sym g ∙ f .reading .unfinished));
           batch = none-batch (d .«waiting_count») (f .reading .none-waiting) _ _;
@@ -299,8 +299,8 @@ module _ (t : List Entry) (d : TagDecoder) (s : List ℕ) (starts : List Started
       }
 
   data-called : (x : ℕ) (v : TagValue) (n : ℕ) → d .position + n ≤ 2 ^ 62 → Holds t d s x v n
-      → Called t (d .settings .«allow_oversized») s starts left (d .position) (answer.Event (event.Data x (d .position) v)) n (atPosition d (d .position + n))
-  unfolding withNotes
+      → Called t (d .settings .«allow_oversized») s starts left (d .position) (answer.Event (event.Data x (d .position) v)) n (counted (atPosition d (d .position + n)))
+  unfolding counted withOpen withNotes
   data-called x v n near f =
       record {
         promised = (f .kind, record { heads = f .heads; offset = refl; inside = rw (f .end) inside-all });
@@ -308,7 +308,7 @@ module _ (t : List Entry) (d : TagDecoder) (s : List ℕ) (starts : List Started
         measured = f .whole;
         batch = tt;
         tied = record {
-          linked = moved-linked t d starts left (d .position) (k .linked) (d .position + n) (d .finished) (omega arith) near;
+          linked = counted-linked t d starts left (d .position) (k .linked) (d .position + n) (omega (arith, f .some)) near;
           finished = λ g. absurd (true≢false (sym g ∙ f .reading .unfinished));
           full = λ g. absurd (true≢false (sym g ∙ f .reading .unfinished));
           batch = none-batch (d .«waiting_count») (f .reading .none-waiting) _ _;
@@ -338,7 +338,7 @@ module _ (t : List Entry) (d : TagDecoder) (s : List ℕ) (starts : List Started
 pub unsettled-waiting : (t : List Entry) (d : TagDecoder) (starts : List Started) (left : List ℕ) (p : ℕ) → Linked t d starts left p → d .settled ≡ false → d .«waiting_count» ≡ 0
 unsettled-waiting t d starts left p k u =
     let none : k .ended ≡ [] = both-empty (k .ended) _ (sym (k .parts) ∙ k .unsettled u) .0 in
-    sym (waits-length d (k .arrays) (k .good .waiting-count)) ∙ ap length (sym (k .waiting)) ∙ ap (λ (l : List Started). length (map asEnd l)) none
+    sym (waits-length d (k .arrays) (k .good .waiting-count)) ∙ sym (length-map (waits d) named) ∙ ap length (sym (k .waiting)) ∙ ap (λ (l : List Started). length (map asEnd l)) none
 
 -- the record with the note is tied, with the parents that the note implies
 pub noted-tied : (ps : List ℕ) (t : List Entry) (d : TagDecoder) (starts : List Started) (left : List ℕ) (p : ℕ) (n : Note) → NoteFacts ps t d n → Tied t d starts left p
@@ -459,7 +459,8 @@ module _ (t : List Entry) (d : TagDecoder) (s : List ℕ) (starts : List Started
 
 -- ---- a decode call, and the end of input
 
-quiet-waits : (a : Answer) (n : ℕ) (e : TagDecoder) → Quiet a n e → isQuiet a ≡ true → e .«waiting_count» ≡ 0
+-- after such an answer no End waits
+pub quiet-waits : (a : Answer) (n : ℕ) (e : TagDecoder) → Quiet a n e → isQuiet a ≡ true → e .«waiting_count» ≡ 0
 quiet-waits (answer.Event x) n e f q = absurd (false≢true q)
 quiet-waits (answer.NeedMore missing) n e f q = f .1
 quiet-waits answer.Finished n e f q = f .1

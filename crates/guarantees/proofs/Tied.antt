@@ -2,7 +2,7 @@
 -- from the top down, are exactly the Starts that are open and then the implied parents that are left. Each move of the
 -- record keeps it. Assumes nothing.
 use Prim.Native.Nat.{ℕ, _≤_}
-use mathlib.Core.Path.{_≡_, refl, ap}
+use mathlib.Core.Path.{_≡_, refl, ap, _∙_}
 use mathlib.Core.Bool.{Bool, true, false, false≢true}
 use mathlib.Core.List.{List, [], _∷_, _++_, map, reverse}
 use native.Mathlib.Omega.{arith}
@@ -33,9 +33,13 @@ asStarted m = record { id = m .id; offset = m .«tag_start»; end = knownEnd (m 
 abbrev pub parentOf : ℕ → Started
 parentOf x = record { id = x; offset = 0; end = Nothing }
 
--- its End
-abbrev pub asEnd : Started → WaitingEnd
-asEnd m = record { id = m .id; offset = m .offset }
+-- what its End names: its ID and where it started
+abbrev pub asEnd : Started → ℕ × ℕ
+asEnd m = (m .id, m .offset)
+
+-- what an End names
+abbrev pub named : WaitingEnd → ℕ × ℕ
+named end = (end .id, end .offset)
 
 -- the Starts that are open and then the implied parents, from the innermost on
 abbrev pub stack : List Started → List ℕ → List Started
@@ -58,7 +62,7 @@ pub record Linked (t : List Entry) (d : TagDecoder) (starts : List Started) (lef
   pub masters : allMasters t (opens d) ≡ true
   -- those whose End waits
   pub ended : List Started
-  pub waiting : map asEnd ended ≡ waits d
+  pub waiting : map asEnd ended ≡ map named (waits d)
   pub parts : stack starts left ≡ ended ++ map asStarted (reverse (opens d))
   pub kinds : allStarted t (stack starts left) ≡ true
   pub few : length (stack starts left) ≤ mostOpen
@@ -103,17 +107,19 @@ map-same f g h [] = refl
 map-same f g h (a ∷ l) = rw (h a) (ap (λ (k : List _). g a ∷ k) (map-same f g h l))
 
 -- the first of the stack gone
-pub popped : (starts : List Started) (left : List ℕ) (m : Started) (rest : List Started) → stack starts left ≡ m ∷ rest
-    → EndMatches starts left (asEnd m) × (stack (drop 1 starts) (leftByEnd starts left) ≡ rest)
-popped [] [] m rest e = let z : _≡_ {A = ℕ} 0 1 = cc in absurd (omega arith)
-popped [] (x ∷ left) m rest e =
+pub popped : (starts : List Started) (left : List ℕ) (m : Started) (rest : List Started) (end : WaitingEnd) → stack starts left ≡ m ∷ rest → named end ≡ asEnd m
+    → EndMatches starts left end × (stack (drop 1 starts) (leftByEnd starts left) ≡ rest)
+popped [] [] m rest end e f = let z : _≡_ {A = ℕ} 0 1 = cc in absurd (omega arith)
+popped [] (x ∷ left) m rest end e f =
     let q : m ≡ parentOf x = cc in
     let r : map parentOf left ≡ rest = cc in
-    ((ap (λ (n : Started). n .id) q, ap (λ (n : Started). n .offset) q), r)
-popped (s ∷ starts) left m rest e =
+    let n = f ∙ ap asEnd q in
+    ((ap (λ (p : ℕ × ℕ). p .0) n, ap (λ (p : ℕ × ℕ). p .1) n), r)
+popped (s ∷ starts) left m rest end e f =
     let q : m ≡ s = cc in
     let r : stack starts left ≡ rest = cc in
-    ((ap (λ (n : Started). n .id) q, ap (λ (n : Started). n .offset) q), r)
+    let n = f ∙ ap asEnd q in
+    ((ap (λ (p : ℕ × ℕ). p .0) n, ap (λ (p : ℕ × ℕ). p .1) n), r)
 
 -- where the stack is empty, no Start is open and no parent is left
 pub none-open : (starts : List Started) (left : List ℕ) → stack starts left ≡ [] → (starts ≡ []) × (left ≡ [])

@@ -175,12 +175,16 @@ fn put_reached(taken: usize, position: u64, out: &mut [u8], at: usize) -> usize
     put_named(b" p=", position, out, next)
 }
 
-// An event, and what the call reached.
+// An event, what the call reached, and of an End how many children its master had.
 fn put_event_reached(e: Event, taken: usize, position: u64, out: &mut [u8]) -> usize
     ensures { λ r. ⌜ r ≤ length (now (out .entry)) ⌝ }
 {
     let at = put_event(e, out);
-    put_reached(taken, position, out, at)
+    let next = put_reached(taken, position, out, at);
+    if let Event::End(end) = e {
+        return put_named(b" count=", end.count, out, next);
+    }
+    next
 }
 
 // A letter, and what the call reached.

@@ -9,6 +9,7 @@ use crate::words::put_named;
 use decoder_rules::types::TagDecoder;
 use decoder_rules::types::WaitingEnd;
 use script_text::answers::put;
+use script_text::answers::put_decimal;
 use script_text::answers::put_text;
 use spec_util::types::MOST_OPEN;
 use spec_util::types::OpenTag;
@@ -17,6 +18,12 @@ use spec_util::types::OpenTag;
 pub enum ListKind {
     Open,
     Waiting,
+}
+
+// What a list shows of each item: the item itself, or the count of its children.
+enum Shown {
+    Item,
+    Children,
 }
 
 fn bit(is_set: bool, value: u64) -> u64
@@ -84,16 +91,51 @@ fn put_waiting(i: usize, e: WaitingEnd, out: &mut [u8], at: usize) -> usize
     put_after(b':', e.offset, out, after_id)
 }
 
+fn put_children(i: usize, children: u64, out: &mut [u8], at: usize) -> usize
+    requires { ⌜ at ≤ length (now out) ⌝ }
+    ensures { λ r. ⌜ r ≤ length (now (out .entry)) ⌝ }
+{
+    let next = put_comma(i, out, at);
+    put_decimal(children, out, next)
+}
+
+fn put_open_shown(shown: Shown, i: usize, m: OpenTag, out: &mut [u8], at: usize) -> usize
+    requires { ⌜ at ≤ length (now out) ⌝ }
+    ensures { λ r. ⌜ r ≤ length (now (out .entry)) ⌝ }
+{
+    match shown {
+        Shown::Item => put_open(i, m, out, at),
+        Shown::Children => put_children(i, m.count, out, at),
+    }
+}
+
+fn put_waiting_shown(shown: Shown, i: usize, e: WaitingEnd, out: &mut [u8], at: usize) -> usize
+    requires { ⌜ at ≤ length (now out) ⌝ }
+    ensures { λ r. ⌜ r ≤ length (now (out .entry)) ⌝ }
+{
+    match shown {
+        Shown::Item => put_waiting(i, e, out, at),
+        Shown::Children => put_children(i, e.count, out, at),
+    }
+}
+
 // How many items the list of this kind has.
-fn count_of(kind: ListKind, d: TagDecoder) -> usize {
+pub fn count_of(kind: ListKind, d: TagDecoder) -> usize {
     match kind {
         ListKind::Open => d.open_count,
         ListKind::Waiting => d.waiting_count,
     }
 }
 
-// The item at `i`, where there is one.
-fn put_item(kind: ListKind, d: TagDecoder, i: usize, out: &mut [u8], at: usize) -> usize
+// What is shown of the item at `i`, where there is one.
+fn put_item(
+    kind: ListKind,
+    shown: Shown,
+    d: TagDecoder,
+    i: usize,
+    out: &mut [u8],
+    at: usize,
+) -> usize
     requires { ⌜ at ≤ length (now out) ⌝ }
     ensures { λ r. ⌜ r ≤ length (now (out .entry)) ⌝ }
 {
@@ -106,30 +148,37 @@ fn put_item(kind: ListKind, d: TagDecoder, i: usize, out: &mut [u8], at: usize) 
     match kind {
         ListKind::Open => {
             let m = d.open[i];
-            put_open(i, m, out, at)
+            put_open_shown(shown, i, m, out, at)
         }
         ListKind::Waiting => {
             let e = d.waiting[i];
-            put_waiting(i, e, out, at)
+            put_waiting_shown(shown, i, e, out, at)
         }
     }
 }
 
-fn put_items(kind: ListKind, d: TagDecoder, out: &mut [u8], at: usize) -> usize
+fn put_items(kind: ListKind, shown: Shown, d: TagDecoder, out: &mut [u8], at: usize) -> usize
     requires { ⌜ at ≤ length (now out) ⌝ }
     ensures { λ r. ⌜ r ≤ length (now (out .entry)) ⌝ }
 {
     let mut to = at;
     let mut i: usize = 0;
     while i < MOST_OPEN {
-        to = put_item(kind, d, i, out, to);
+        to = put_item(kind, shown, d, i, out, to);
         i += 1;
     }
     to
 }
 
-// The items after the list's name, `-` for none.
-fn put_list(name: &[u8], kind: ListKind, d: TagDecoder, out: &mut [u8], at: usize) -> usize
+// What is shown of the items after a name, `-` where there is none.
+fn put_list(
+    name: &[u8],
+    kind: ListKind,
+    shown: Shown,
+    d: TagDecoder,
+    out: &mut [u8],
+    at: usize,
+) -> usize
     requires { ⌜ at ≤ length (now out) ⌝ }
     ensures { λ r. ⌜ r ≤ length (now (out .entry)) ⌝ }
 {
@@ -137,7 +186,16 @@ fn put_list(name: &[u8], kind: ListKind, d: TagDecoder, out: &mut [u8], at: usiz
     if count_of(kind, d) == 0 {
         return put(b'-', out, next);
     }
-    put_items(kind, d, out, next)
+    put_items(kind, shown, d, out, next)
+}
+
+// The counts of the open masters and of the waiting Ends.
+fn put_counts(d: TagDecoder, out: &mut [u8], at: usize) -> usize
+    requires { ⌜ at ≤ length (now out) ⌝ }
+    ensures { λ r. ⌜ r ≤ length (now (out .entry)) ⌝ }
+{
+    let next = put_list(b" C=", ListKind::Open, Shown::Children, d, out, at);
+    put_list(b" V=", ListKind::Waiting, Shown::Children, d, out, next)
 }
 
 // The position, and whether the record is settled and finished.
@@ -157,6 +215,7 @@ pub fn put_record(d: TagDecoder, out: &mut [u8]) -> usize
     let after_a = put_named(b"st a=", allowance(d), out, 0);
     let after_m = put_max(d, out, after_a);
     let after_f = put_state(d, out, after_m);
-    let after_open = put_list(b" O=", ListKind::Open, d, out, after_f);
-    put_list(b" W=", ListKind::Waiting, d, out, after_open)
+    let after_open = put_list(b" O=", ListKind::Open, Shown::Item, d, out, after_f);
+    let after_waiting = put_list(b" W=", ListKind::Waiting, Shown::Item, d, out, after_open);
+    put_counts(d, out, after_waiting)
 }

@@ -7,6 +7,7 @@ use decoder_rules::types::Optional;
 use decoder_rules::types::TagDecoder;
 use decoder_rules::types::WaitingEnd;
 use script_answers::record::ListKind;
+use script_answers::record::count_of;
 use script_text::reading::Number;
 use script_text::reading::read_decimal;
 use script_text::words::item_end;
@@ -178,4 +179,58 @@ pub fn set_list(kind: ListKind, text: &[u8], d: TagDecoder) -> Change {
         return good(empty);
     }
     push_items(kind, text, empty)
+}
+
+// `d` with `n` children of the item at `i`. One item more than there are places has no count to set.
+fn with_children(kind: ListKind, i: usize, n: u64, d: TagDecoder) -> TagDecoder {
+    if MOST_OPEN <= i {
+        return d;
+    }
+    let mut next = d;
+    match kind {
+        ListKind::Open => next.open[i].count = n,
+        ListKind::Waiting => next.waiting[i].count = n,
+    }
+    next
+}
+
+// The count of the item at `i`, where there is one.
+fn set_count(kind: ListKind, i: usize, text: &[u8], d: TagDecoder) -> Change {
+    if count_of(kind, d) <= i {
+        return bad(d);
+    }
+    let Number::Value(n) = read_decimal(text) else {
+        return bad(d);
+    };
+    good(with_children(kind, i, n, d))
+}
+
+fn set_each_count(kind: ListKind, list: &[u8], d: TagDecoder) -> Change {
+    let mut change = good(d);
+    let mut at: usize = 0;
+    let mut i: usize = 0;
+    while at <= list.len() {
+        let end = item_end(list, at);
+        let so_far = change.decoder;
+        change = set_count(kind, i, &list[at..end], so_far);
+        if !change.is_good {
+            return change;
+        }
+        at = end + 1;
+        i += 1;
+    }
+    change.is_good = i == count_of(kind, d);
+    change
+}
+
+// `d` with these counts of children of the items that its list holds: exactly as many, `-` where it holds none.
+pub fn set_counts(kind: ListKind, text: &[u8], d: TagDecoder) -> Change {
+    if count_of(kind, d) == 0 {
+        let is_good = same(text, b"-");
+        return Change {
+            is_good,
+            decoder: d,
+        };
+    }
+    set_each_count(kind, text, d)
 }

@@ -72,7 +72,11 @@ fn with_offset(id: u64, text: &[u8]) -> Item {
     let Number::Value(offset) = read_decimal(text) else {
         return Item::Bad;
     };
-    Item::Waiting(WaitingEnd { id, offset })
+    Item::Waiting(WaitingEnd {
+        id,
+        offset,
+        count: 0,
+    })
 }
 
 // The item that `text` writes for a list of this kind; `Bad` where it writes none.

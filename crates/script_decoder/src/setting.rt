@@ -3,6 +3,7 @@
 use crate::changes::Change;
 use crate::changes::bad;
 use crate::changes::set_allowance;
+use crate::changes::set_counts;
 use crate::changes::set_finished;
 use crate::changes::set_list;
 use crate::changes::set_max;
@@ -13,7 +14,7 @@ use script_answers::record::ListKind;
 use script_text::words::word_end;
 
 // How many keys there are.
-const KEYS: usize = 7;
+const KEYS: usize = 9;
 
 // The record with the fields so far, which keys they have, and whether all are right.
 struct Setting {
@@ -32,6 +33,8 @@ fn key_number(key: u8) -> usize {
         b'f' => 4,
         b'O' => 5,
         b'W' => 6,
+        b'C' => 7,
+        b'V' => 8,
         _ => KEYS,
     }
 }
@@ -45,6 +48,8 @@ fn change(key: u8, value: &[u8], d: TagDecoder) -> Change {
         b'f' => set_finished(value, d),
         b'O' => set_list(ListKind::Open, value, d),
         b'W' => set_list(ListKind::Waiting, value, d),
+        b'C' => set_counts(ListKind::Open, value, d),
+        b'V' => set_counts(ListKind::Waiting, value, d),
         _ => bad(d),
     }
 }

@@ -12,7 +12,7 @@ use Rattle.spec_util.specs.declared.types.OpenTag.{OpenTag}
 
 -- an open master of known or Unknown size
 abbrev open-as : Bool → ℕ → OpenTag
-open-as known id = record { id = id; known = known; size = 0; «tag_start» = 0; «data_start» = 0 }
+open-as known id = record { id = id; known = known; size = 0; «tag_start» = 0; «data_start» = 0; count = 0 }
 
 abbrev k : ℕ → OpenTag
 k id = open-as true id

@@ -16,9 +16,9 @@ use Rattle.spec_util.specs.declared.types.OpenTag.{OpenTag}
 use Rattle.spec_util.specs.declared.types.Walk.{Walk}
 use Rattle.spec_util.specs.declared.types.Walk.the-variants.{Accept, Refuse, On}
 
--- an open master: ID, size known or not, size (0 where it is not known), start, data start
+-- an open master that has had no child yet: ID, size known or not, size (0 where it is not known), start, data start
 abbrev pub openTag : ℕ → Bool → ℕ → ℕ → ℕ → OpenTag
-openTag x known size start from = record { id = x; known = known; size = size; «tag_start» = start; «data_start» = from }
+openTag x known size start from = record { id = x; known = known; size = size; «tag_start» = start; «data_start» = from; count = 0 }
 
 -- what an empty place of the open masters holds
 abbrev pub noTag : OpenTag

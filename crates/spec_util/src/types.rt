@@ -6,16 +6,17 @@ ghost use Rattle.spec_util.specs.Walk.{openTag, noTag};
 // A record has places for so many open masters.
 pub const MOST_OPEN: usize = 32;
 
-// An open master. The size means nothing where it is not known.
+// An open master. The size means nothing where it is not known; the count is that of its children so far.
 pub struct OpenTag {
     pub id: u64,
     pub known: bool,
     pub size: u64,
     pub tag_start: u64,
     pub data_start: u64,
+    pub count: u64,
 }
 
-// An open master; a size that is not known is given as 0.
+// An open master that has had no child yet; a size that is not known is given as 0.
 pub fn open_tag(id: u64, known: bool, size: u64, tag_start: u64, data_start: u64) -> OpenTag
     ensures { λ r. ⌜ r ≡ openTag id known size «tag_start» «data_start» ⌝ }
 {
@@ -25,6 +26,7 @@ pub fn open_tag(id: u64, known: bool, size: u64, tag_start: u64, data_start: u64
         size,
         tag_start,
         data_start,
+        count: 0,
     }
 }
 

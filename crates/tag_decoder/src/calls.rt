@@ -5,6 +5,7 @@ ghost use Rattle.decoder_rules.specs.Moving.{decode};
 ghost use Rattle.decoder_rules.specs.EndOfInput.{decodeEof};
 use crate::end_of_input::end_of_input;
 use decoder_decide::decide::decide;
+use decoder_look::summary::good_ends;
 use decoder_look::summary::summarize;
 use decoder_move::answers::answer_to;
 use decoder_move::answers::taken_by;
@@ -13,6 +14,7 @@ use decoder_move::moves::closed_to;
 use decoder_move::moves::handed_out;
 use decoder_move::moves::master_at;
 use decoder_move::moves::settled_to;
+use decoder_move::moves::with_child;
 use decoder_rules::types::Action;
 use decoder_rules::types::Answer;
 use decoder_rules::types::Decoded;
@@ -28,7 +30,8 @@ pub fn decode(entries: &[u64], parts: &[u64], mut d: TagDecoder, input: &[u8]) -
 {
     let mut ids = [0u64; MOST_OPEN];
     let mut knowns = [false; MOST_OPEN];
-    let summary = summarize(d, &mut ids, &mut knowns);
+    let ends = d.waiting_count == 0 || good_ends(d);
+    let summary = summarize(d, ends, &mut ids, &mut knowns);
     let decision = decide(entries, parts, summary, &ids, &knowns, input);
     let note = decision.note;
     let action = decision.action;
@@ -46,11 +49,15 @@ pub fn decode(entries: &[u64], parts: &[u64], mut d: TagDecoder, input: &[u8]) -
         Action::Close(k) => d = closed_to(d, k),
         Action::Start { id, size, len } => {
             let n = d.open_count;
+            d.open[top] = with_child(d.open[top], n);
             d.open[n] = master_at(id, size, d.position, len);
             d.open_count = n + 1;
             d.position += len as u64;
         }
-        Action::Data { taken: n, .. } => d.position += n as u64,
+        Action::Data { taken: n, .. } => {
+            d.open[top] = with_child(d.open[top], d.open_count);
+            d.position += n as u64;
+        }
     }
     Decoded {
         answer,

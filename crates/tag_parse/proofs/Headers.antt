@@ -30,7 +30,7 @@ use Rattle.tag_parse.specs.declared.types.EBMLSize.the-variants as size
 use Rattle.tag_parse.specs.declared.types.TagHeader.{TagHeader}
 use Rattle.tag_parse.specs.declared.types.ReadHeader.the-variants as header
 use Rattle.tag_parse.proofs.Cases.{id-front, octets-drop}
-use Rattle.tag_parse.proofs.Ids.{id-sound, id-complete, id-needs-more, id-local}
+use Rattle.tag_parse.proofs.Ids.{id-sound, id-complete, id-needs-more, id-local, first-of-id}
 
 -- the header that a size of v in L octets makes, where it is not too long for its type
 pub made : (x n v L : ℕ) (spec : Spec) (h : TagHeader) → sizedBy x spec n v L ≡ header.Header h → (headerOf x spec n v L ≡ h) × (tooLong (spec .kind) v ≡ false)
@@ -76,6 +76,10 @@ header-sound t s h byte e = at-id (readTagId s) refl e
 -- so it has at most 16 octets
 pub header-short : {h : TagHeader} {s : List ℕ} → IsHeader h s → h .len ≤ 16
 header-short i = omega (arith, i .taken, i .at-most-8, i .vint .vint .at-most-8)
+
+-- and at least 2, one of its ID and one of its size
+pub header-long : {h : TagHeader} {s : List ℕ} → IsHeader h s → 2 ≤ h .len
+header-long {h} {s} i = omega (arith, i .taken, first-of-id (take (i .n) s) (i .identifier) .some, i .vint .vint .at-least-1)
 
 -- and a known size has at most 56 bits
 pub known-small : {h : TagHeader} {s : List ℕ} (m : ℕ) → IsHeader h s → h .size ≡ size.Known m → m < vintLimit

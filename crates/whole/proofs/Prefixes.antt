@@ -20,7 +20,7 @@ use Rattle.tag_parse.specs.declared.types.EBMLSize.{EBMLSize}
 use Rattle.tag_parse.specs.declared.types.EBMLSize.the-variants.{Known, Unknown}
 use Rattle.tag_parse.specs.declared.types.TagHeader.{TagHeader}
 use Rattle.tag_parse.proofs.Cases.{octets-drop}
-use Rattle.decoder_rules.specs.Record.{fresh, endOf, withOpen, withNotes, opened}
+use Rattle.decoder_rules.specs.Record.{fresh, endOf, withOpen, withNotes, countedLast, counted, opened}
 use Rattle.decoder_rules.specs.OneCall.{step7, noted}
 use Rattle.decoder_rules.specs.Moving.{needsMore, masterAt, move, apply, decode}
 use Rattle.decoder_rules.specs.EndOfInput.{decodeEof}
@@ -74,18 +74,20 @@ abbrev firstEnd : TagDecoder → ℕ
 firstEnd d = endOf (getD (d .«open») 0 noTag)
 
 start-opens : (e : TagDecoder) (h : TagHeader) (z : EBMLSize) → e .settings .«allow_oversized» ≡ false → e .«open_count» + 1 ≡ 1
-    → topIsSized (opened (withNotes e (e .position + h .len) (e .settled) (e .finished)) (masterAt (h .id) z (e .position) (h .len))) ≡ true
-    → RootOpen (firstEnd (opened (withNotes e (e .position + h .len) (e .settled) (e .finished)) (masterAt (h .id) z (e .position) (h .len))))
-    (opened (withNotes e (e .position + h .len) (e .settled) (e .finished)) (masterAt (h .id) z (e .position) (h .len)))
-unfolding opened withOpen withNotes
+    → topIsSized (opened (counted (withNotes e (e .position + h .len) (e .settled) (e .finished))) (masterAt (h .id) z (e .position) (h .len))) ≡ true
+    → RootOpen (firstEnd (opened (counted (withNotes e (e .position + h .len) (e .settled) (e .finished))) (masterAt (h .id) z (e .position) (h .len))))
+    (opened (counted (withNotes e (e .position + h .len) (e .settled) (e .finished))) (masterAt (h .id) z (e .position) (h .len)))
+unfolding counted opened withOpen withNotes
 start-opens e h Unknown t one k =
+    let l = countedLast (e .«open_count») (e .«open») in
     let m = masterAt (h .id) Unknown (e .position) (h .len) in
-    let w = opened-first (e .«open») (e .«open_count») m one (top-known (eqb (e .«open_count» + 1) 0) (ltb 32 (e .«open_count» + 1)) (getD (set (e .«open») (e .«open_count») m) (e .«open_count» + 1 - 1) noTag .known) k) in
+    let w = opened-first l (e .«open_count») m one (top-known (eqb (e .«open_count» + 1) 0) (ltb 32 (e .«open_count» + 1)) (getD (set l (e .«open_count») m) (e .«open_count» + 1 - 1) noTag .known) k) in
     absurd (false≢true (w .sized))
 start-opens e h (Known n) t one k =
+    let l = countedLast (e .«open_count») (e .«open») in
     let m = masterAt (h .id) (Known n) (e .position) (h .len) in
-    let w = opened-first (e .«open») (e .«open_count») m one (top-known (eqb (e .«open_count» + 1) 0) (ltb 32 (e .«open_count» + 1)) (getD (set (e .«open») (e .«open_count») m) (e .«open_count» + 1 - 1) noTag .known) k) in
-    let end : endOf (getD (set (e .«open») (e .«open_count») m) 0 noTag) ≡ e .position + h .len + n = ap endOf (w .there) in
+    let w = opened-first l (e .«open_count») m one (top-known (eqb (e .«open_count» + 1) 0) (ltb 32 (e .«open_count» + 1)) (getD (set l (e .«open_count») m) (e .«open_count» + 1 - 1) noTag .known) k) in
+    let end : endOf (getD (set l (e .«open_count») m) 0 noTag) ≡ e .position + h .len + n = ap endOf (w .there) in
     record {
       root = m;
       outermost = record { others = []; is = w .alone };
@@ -108,7 +110,7 @@ header-opens e t (exit.ends-tops v k (exit.closes c)) i z = absurd (false≢true
 header-opens e t (exit.ends-tops v k (exit.no-master c)) i z = absurd (false≢true i)
 header-opens e t (exit.too-many at k g) i z = absurd (false≢true i)
 header-opens {h = h} e t (exit.starts at k g) i z =
-    let w : eqb (e .«open_count» + 1) 1 ≡ true = unfold opened in unfold withOpen in unfold withNotes in both (eqb (e .position) 0) (eqb (e .«open_count» + 1) 1) i .right in
+    let w : eqb (e .«open_count» + 1) 1 ≡ true = unfold counted in unfold opened in unfold withOpen in unfold withNotes in both (eqb (e .position) 0) (eqb (e .«open_count» + 1) 1) i .right in
     start-opens e h (h .size) t (eqb-true _ _ w) z
 header-opens e t (exit.no-size at k y) i z = absurd (false≢true i)
 header-opens e t (exit.payload-incomplete n has g) i z = absurd (false≢true i)

@@ -21,7 +21,7 @@ use Rattle.tag_parse.specs.declared.types.EBMLSize.{EBMLSize}
 use Rattle.tag_parse.specs.declared.types.EBMLSize.the-variants.{Known, Unknown}
 use Rattle.tag_parse.specs.declared.types.TagHeader.{TagHeader}
 use Rattle.tag_parse.proofs.Cases.{octets-drop}
-use Rattle.decoder_rules.specs.Record.{opens, endOf, withOpen, withWaiting, withNotes, opened, closedTo, handedOut}
+use Rattle.decoder_rules.specs.Record.{opens, endOf, withOpen, withWaiting, withNotes, oneMore, countedLast, counted, opened, closedTo, handedOut}
 use Rattle.decoder_rules.specs.OneCall.{isFull, step3, step7, noted, reaches, step9, endedTops, step10}
 use Rattle.decoder_rules.specs.Moving.{masterAt, move, apply}
 use Rattle.decoder_rules.specs.EndOfInput.{isCut, decodeEof}
@@ -71,6 +71,25 @@ outermost-set (y ∷ l) (suc n) m x o =
 outermost-closed : (l : List OpenTag) (k : ℕ) (m : OpenTag) → 0 < k → Outermost l m → Outermost (take k (filled noTag (take k l))) m
 outermost-closed l zero m h o = absurd (omega arith)
 outermost-closed l (suc k) m h o = record { others = take k (take k (o .others) ++ replicate (arrayPlaces - length (m ∷ take k (o .others))) noTag); is = rw (o .is) }
+
+-- the outermost of these masters is known and ends as m does
+record OutermostAs (l : List OpenTag) (m : OpenTag) : Type 0 where
+  root : OpenTag
+  outermost : Outermost l root
+  known : root .known ≡ m .known
+  end : endOf root ≡ endOf m
+
+-- so it is where a child of the innermost is counted
+outermost-counted : (n : ℕ) (l : List OpenTag) (m : OpenTag) → Outermost (take n l) m → OutermostAs (take n (countedLast n l)) m
+unfolding countedLast oneMore
+outermost-counted zero l m o = let z : _≡_ {A = ℕ} 0 1 = omega (arith, ap length (o .is)) in absurd-eq z
+outermost-counted (suc n) [] m o = let z : _≡_ {A = ℕ} 0 1 = omega (arith, ap length (o .is)) in absurd-eq z
+outermost-counted (suc zero) (y ∷ l) m o =
+    let first : y ≡ m = ap (λ (k : List OpenTag). getD k 0 noTag) (o .is) in
+    record { root = oneMore y; outermost = record { others = []; is = refl }; known = ap (λ (x : OpenTag). x .known) first; end = ap endOf first }
+outermost-counted (suc (suc n)) (y ∷ l) m o =
+    let first : y ≡ m = ap (λ (k : List OpenTag). getD k 0 noTag) (o .is) in
+    record { root = y; outermost = record { others = take (suc n) (set l n (oneMore (getD l n noTag))); is = refl }; known = ap (λ (x : OpenTag). x .known) first; end = ap endOf first }
 
 -- a master of known size is not ended by an ID
 tops-few : (t : List Entry) (x : ℕ) (l : List OpenTag) (m : OpenTag) → m .known ≡ true → endedTops t x (l ++ (m ∷ [])) ≤ length l
@@ -155,18 +174,27 @@ inside-root f d len n o p = by (leb (d .position + (len + n)) (endOf (o .root)))
     by : (b : Bool) → leb (d .position + (len + n)) (endOf (o .root)) ≡ b → d .position + (len + n) ≤ f
     by b e = fits b e (rw (o .tested, o .outermost .is, o .known, e) at q)
 
+-- a child of the innermost is counted
+counted-open : (f : ℕ) (d : TagDecoder) → RootOpen f d → RootOpen f (counted d)
+unfolding counted withOpen
+counted-open f d o =
+    let c = outermost-counted (d .«open_count») (d .«open») (o .root) (o .outermost) in
+    record { root = c .root; outermost = c .outermost; known = c .known ∙ o .known; end = c .end ∙ o .end; within = o .within; tested = o .tested }
+
 -- a Start that has a size
 start-stage : (f : ℕ) (d : TagDecoder) (h : TagHeader) (z : EBMLSize) → h .size ≡ z → RootOpen f d → step9 d (h .len) (h .size) ≡ Pass
-    → topIsSized (opened (withNotes d (d .position + h .len) (d .settled) (d .finished)) (masterAt (h .id) z (d .position) (h .len))) ≡ true
-    → RootOpen f (opened (withNotes d (d .position + h .len) (d .settled) (d .finished)) (masterAt (h .id) z (d .position) (h .len)))
-unfolding opened withOpen withNotes
+    → topIsSized (opened (counted (withNotes d (d .position + h .len) (d .settled) (d .finished))) (masterAt (h .id) z (d .position) (h .len))) ≡ true
+    → RootOpen f (opened (counted (withNotes d (d .position + h .len) (d .settled) (d .finished))) (masterAt (h .id) z (d .position) (h .len)))
+unfolding counted opened withOpen withNotes
 start-stage f d h (Known n) e o v k =
     let fits = inside-root f d (h .len) n o (rw e at v) in
+    let on = withNotes d (d .position + h .len) (d .settled) (d .finished) in
+    let c = counted-open f on (record { root = o .root; outermost = o .outermost; known = o .known; end = o .end; within = omega (arith, fits); tested = o .tested }) in
     record {
-      root = o .root;
-      outermost = outermost-set (d .«open») (d .«open_count») (o .root) (masterAt (h .id) (Known n) (d .position) (h .len)) (o .outermost);
-      known = o .known;
-      end = o .end;
+      root = c .root;
+      outermost = outermost-set (countedLast (d .«open_count») (d .«open»)) (d .«open_count») (c .root) (masterAt (h .id) (Known n) (d .position) (h .len)) (c .outermost);
+      known = c .known;
+      end = c .end;
       within = omega (arith, fits);
       tested = o .tested;
     }
@@ -175,20 +203,23 @@ start-stage f d h Unknown e o v k = absurd (unsized (eqb (d .«open_count» + 1)
     m : OpenTag
     m = masterAt (h .id) Unknown (d .position) (h .len)
 
+    places : List OpenTag
+    places = countedLast (d .«open_count») (d .«open»)
+
     same : d .«open_count» + 1 - 1 ≡ d .«open_count»
     same = omega arith
 
-    unsized : (a b : Bool) → cond a false (cond b false (getD (set (d .«open») (d .«open_count») m) (d .«open_count» + 1 - 1) noTag .known)) ≡ true → ⊥
+    unsized : (a b : Bool) → cond a false (cond b false (getD (set places (d .«open_count») m) (d .«open_count» + 1 - 1) noTag .known)) ≡ true → ⊥
     unsized true b q = false≢true q
     unsized false true q = false≢true q
     unsized false false q =
-        let q' : getD (set (d .«open») (d .«open_count») m) (d .«open_count») noTag .known ≡ true = rw same at q in
-        false≢true (ap (λ (x : OpenTag). x .known) (sym (pushed (d .«open») (d .«open_count») m q')) ∙ q')
+        let q' : getD (set places (d .«open_count») m) (d .«open_count») noTag .known ≡ true = rw same at q in
+        false≢true (ap (λ (x : OpenTag). x .known) (sym (pushed places (d .«open_count») m q')) ∙ q')
 
-data-stage : (f : ℕ) (d : TagDecoder) (len n : ℕ) → RootOpen f d → step9 d len (Known n) ≡ Pass → RootOpen f (withNotes d (d .position + (len + n)) (d .settled) (d .finished))
+data-stage : (f : ℕ) (d : TagDecoder) (len n : ℕ) → RootOpen f d → step9 d len (Known n) ≡ Pass → RootOpen f (counted (withNotes d (d .position + (len + n)) (d .settled) (d .finished)))
 unfolding withNotes
 data-stage f d len n o v =
-    record { root = o .root; outermost = o .outermost; known = o .known; end = o .end; within = inside-root f d len n o v; tested = o .tested }
+    counted-open f _ (record { root = o .root; outermost = o .outermost; known = o .known; end = o .end; within = inside-root f d len n o v; tested = o .tested })
 
 handed-stage : (f : ℕ) (d : TagDecoder) → Stage f d → Stage f (handedOut d)
 unfolding handedOut withWaiting
@@ -286,7 +317,7 @@ module _ (es ps : List ℕ) (d : TagDecoder) (s : List ℕ) (byte : Octets s) (s
   closing-none e z l c = absurd (omega arith)
 
   header-rests : {t : List Entry} {h : TagHeader} {a : Action} (f : ℕ) (e : TagDecoder) → RootClosed f e → HeaderExit t e h s a → Rests f (move e a)
-  unfolding move opened withOpen withNotes
+  unfolding move counted opened withOpen withNotes
   header-rests f e c (exit.misplaced p) i z = absurd (false≢true i)
   header-rests f e c (exit.oversized n p y g) i z = absurd (false≢true i)
   header-rests f e c (exit.too-large n p y g k) i z = absurd (false≢true i)

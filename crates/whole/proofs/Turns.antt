@@ -18,7 +18,7 @@ use Rattle.table.proofs.Consequences.{master-of-ids}
 use Rattle.table.proofs.Passed.{passed-gives}
 use Rattle.tag_parse.specs.declared.types.TagHeader.{TagHeader}
 use Rattle.tag_parse.proofs.Headers.{header-sound, header-spec}
-use Rattle.decoder_rules.specs.Record.{withOpen, withWaiting, withNotes, opened, closedTo, handedOut}
+use Rattle.decoder_rules.specs.Record.{withOpen, withWaiting, withNotes, counted, opened, closedTo, handedOut}
 use Rattle.decoder_rules.specs.OneCall.{step7, isSettle, noted}
 use Rattle.decoder_rules.specs.Deciding.{decide}
 use Rattle.decoder_rules.specs.Moving.{move, apply}
@@ -64,7 +64,7 @@ closing-balanced w l (exit.closes c) = omega arith
 closing-balanced w l (exit.no-master c) = tt
 
 header-balanced : {t : List Entry} {e : TagDecoder} {h : TagHeader} {s : List ℕ} {a : Action} → e .«waiting_count» ≡ 0 → 0 < h .len → HeaderExit t e h s a → Balanced e (move e a)
-unfolding move withOpen withNotes opened
+unfolding move counted withOpen withNotes opened
 header-balanced w some (exit.misplaced p) = tt
 header-balanced w some (exit.oversized n p z f) = tt
 header-balanced w some (exit.too-large n p z f g) = tt

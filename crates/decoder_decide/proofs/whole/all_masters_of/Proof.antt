@@ -32,10 +32,10 @@ returns c =
     let t = k .before .before .before .before .before in
     let d = t .args .d in
     let n : min (d .«open_count») 32 ≡ d .«open_count» = omega (arith, t .pre) in
-    let many : length (k .summarize .last .1 .0) ≡ 32 = search needs in
-    let h : d .«open_count» ≤ length (k .summarize .last .1 .0) = omega (arith, t .pre) in
+    let many : length (k .summarize .last .1 .1 .0) ≡ 32 = search needs in
+    let h : d .«open_count» ≤ length (k .summarize .last .1 .1 .0) = omega (arith, t .pre) in
     c .all-masters .ensures
-    ∙ every-shown (λ x. isMaster (dataTypeOf (tableOf (t .args .entries .now) (t .args .parts .now)) x)) 0 h (subst (λ (x : ℕ). ShownIds (k .summarize .last .1 .0) x (opens d)) n (shown-in-front (k .summarize .ensures .1) .shown-ids))
+    ∙ every-shown (λ x. isMaster (dataTypeOf (tableOf (t .args .entries .now) (t .args .parts .now)) x)) 0 h (subst (λ (x : ℕ). ShownIds (k .summarize .last .1 .1 .0) x (opens d)) n (shown-in-front (k .summarize .ensures .1) .shown-ids))
 
 pub all-masters-of-spec : {M : Type 1} → statement M
 all-masters-of-spec =

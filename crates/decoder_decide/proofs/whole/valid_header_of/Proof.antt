@@ -38,8 +38,8 @@ valid-header-requires c κs =
     let t = k .before .before .before .before .before in
     let n : k .summarize .result .view .count ≡ t .args .d .«open_count» = ap (λ (s : HeaderView). s .count) (is-seen k) in
     let p : k .summarize .result .view .position ≡ t .args .d .position = ap (λ (s : HeaderView). s .position) (is-seen k) in
-    let i : length (k .summarize .last .1 .0) ≡ 32 = search needs in
-    let j : length (k .summarize .last .1 .1 .0) ≡ 32 = search needs in
+    let i : length (k .summarize .last .1 .1 .0) ≡ 32 = search needs in
+    let j : length (k .summarize .last .1 .1 .1 .0) ≡ 32 = search needs in
     ((omega (arith, t .pre .0 .0), omega (arith, t .pre .0 .0), omega (arith, t .pre .0 .0)), ((omega (arith, t .pre .0 .1), t .pre .0 .2, t .pre .0 .3), t .pre .1))
 
 returns : tie.Need-returns
@@ -48,7 +48,7 @@ returns c =
     let t = k .before .before .before .before .before in
     let d = t .args .d in
     let n : min (d .«open_count») 32 ≡ k .summarize .result .view .count = sym (ap (λ (s : HeaderView). s .count) (is-seen k) ∙ omega (arith, t .pre .0 .0)) in
-    c .valid-header .ensures d (is-seen k) (subst (λ (x : ℕ). Shown (k .summarize .last .1 .0) (k .summarize .last .1 .1 .0) x (opens d)) n (shown-in-front (k .summarize .ensures .1)))
+    c .valid-header .ensures d (is-seen k) (subst (λ (x : ℕ). Shown (k .summarize .last .1 .1 .0) (k .summarize .last .1 .1 .1 .0) x (opens d)) n (shown-in-front (k .summarize .ensures .1)))
 
 pub valid-header-of-spec : {M : Type 1} → statement M
 valid-header-of-spec =

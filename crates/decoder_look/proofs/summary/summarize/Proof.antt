@@ -9,7 +9,7 @@ use lib.ListN.{length, length-set, length-take, getD, take}
 use lib.Seq.{getD-take}
 use Rattle.spec_util.specs.Walk.{noTag}
 use Rattle.spec_util.specs.declared.types.OpenTag.{OpenTag}
-use Rattle.decoder_rules.specs.OneCall.{goodState}
+use Rattle.decoder_look.specs.Summary.{goodStateWith}
 use Rattle.basics.proofs.ArrayOf32.{length-of-map}
 use Rattle.decoder_look.proofs.OnePass.{Found, found-none, found-next, found-sound, found-done, found-least, Written, written-none, written-next, KeptPast, kept-next, written-all}
 use Rattle.decoder_look.proofs.summary.summarize.Statement.{statement}
@@ -27,10 +27,10 @@ record NoneBefore (p : ℕ) (l : List OpenTag) (ids₀ ids : List ℕ) (knowns�
   pub knowns-written : Written (λ m. m .known) false l knowns i
 
 abbrev Inv-loop : tie.InvT-loop
-Inv-loop ids₀ knowns₀ d position sound₀ done₀ least₀ i₀ ids knowns sound done least i = NoneBefore position (take (d .«open_count») (d .«open»)) ids₀ ids knowns₀ knowns sound done least i
+Inv-loop ends ids₀ knowns₀ d position sound₀ done₀ least₀ i₀ ids knowns sound done least i = NoneBefore position (take (d .«open_count») (d .«open»)) ids₀ ids knowns₀ knowns sound done least i
 
 abbrev μ-loop : tie.MeasureT-loop
-μ-loop ids₀ knowns₀ d position sound₀ done₀ least₀ i₀ ids knowns sound done least i = i
+μ-loop ends ids₀ knowns₀ d position sound₀ done₀ least₀ i₀ ids knowns sound done least i = i
 
 -- 32 places, so at most 32 masters
 many : (c : tie.Start Inv-loop μ-loop) → length (take (c .args .t1 .«open_count») (c .args .t1 .«open»)) ≡ min (c .args .t1 .«open_count») 32
@@ -123,13 +123,13 @@ is-state-good-requires : tie.Need-is-state-good-requires Inv-loop μ-loop
 is-state-good-requires c κs = tt
 
 same-length : tie.Need-same-length Inv-loop μ-loop
-same-length c = c .before .before .before .loop .inv .ids-long ∙ sym (c .before .before .before .before .before .before .before .pre .0)
+same-length c = let t = c .before .before .before in t .loop .inv .ids-long ∙ sym (t .before .before .before .before .pre .0)
 
 same-length-2 : tie.Need-same-length-2 Inv-loop μ-loop
-same-length-2 c = c .before .before .before .loop .inv .knowns-long ∙ sym (c .before .before .before .before .before .before .before .pre .1)
+same-length-2 c = let t = c .before .before .before in t .loop .inv .knowns-long ∙ sym (t .before .before .before .before .pre .1)
 
 returns : tie.Need-returns Inv-loop μ-loop
-unfolding goodState
+unfolding goodStateWith
 returns c =
     let t = c .before .before .before in
     let s = t .before .before .before .before in

@@ -9,10 +9,10 @@ use Rattle.script_answers.proofs.record.put_items.Statement.{statement}
 use Rattle.script_answers.proofs.record.put_items.Tie as tie
 
 abbrev Inv-loop : tie.InvT-loop
-Inv-loop kind d out₀ at to₀ i₀ out to i = (length out ≡ length out₀) × (to ≤ length out₀)
+Inv-loop kind shown d out₀ at to₀ i₀ out to i = (length out ≡ length out₀) × (to ≤ length out₀)
 
 abbrev μ-loop : tie.MeasureT-loop
-μ-loop kind d out₀ at to₀ i₀ out to i = mostOpen - i
+μ-loop kind shown d out₀ at to₀ i₀ out to i = mostOpen - i
 
 loop-holds : tie.Need-loop-holds Inv-loop μ-loop
 loop-holds c = search needs
