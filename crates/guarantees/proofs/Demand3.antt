@@ -9,6 +9,7 @@ use Rattle.table.specs.BenchTable.{benchEntries, benchParts}
 use Rattle.guarantees.specs.Calls.{Call, ending, Lent}
 use Rattle.guarantees.specs.Promises.{Runs}
 use Rattle.guarantees.specs.Demand3.{Demand3}
+use Rattle.guarantees.proofs.Counted.{child-counts}
 use Rattle.guarantees.proofs.CutRecord.{one-more, cut-always-told}
 use Rattle.guarantees.proofs.Guarantees as promise
 use Rattle.guarantees.proofs.Finish.{finish-closes-parents, is-finished-closes-parents}
@@ -28,6 +29,7 @@ demand-3 es ps checked = record {
   start-takes-header = λ cs c l. promise.start-takes-header es ps cs c (runs (c ∷ cs) l);
   data-whole = λ cs c l. promise.data-whole es ps cs c (runs (c ∷ cs) l);
   end-matches = λ cs c l. promise.end-matches es ps cs c (runs (c ∷ cs) l);
+  children = child-counts es ps checked;
   implied-first = λ cs c l. implied-first es ps cs c (runs (c ∷ cs) l);
   finish-closes = λ cs c l. promise.finish-closes es ps cs c (runs (c ∷ cs) l);
   finish-closes-parents = λ cs c l. finish-closes-parents es ps cs c (runs (c ∷ cs) l);

@@ -1,6 +1,6 @@
 -- Document 01's D1, D2, D3 and D5 as histories: what a caller can tell from the calls and their answers, computed.
 -- Assumes nothing.
-use Prim.Native.Nat.{ℕ}
+use Prim.Native.Nat.{ℕ, _*_}
 use mathlib.Core.Path.{_≡_, refl}
 use mathlib.Core.List.{List, [], _∷_}
 use lib.ListN.{take, drop}
@@ -13,6 +13,7 @@ use Rattle.table.specs.BenchTable.{benchEntries, benchParts}
 use Rattle.guarantees.specs.Calls.{Call, decoding, ending, recovering, history}
 use Rattle.guarantees.specs.History.{Started, startsOpen, parentsLeft, position}
 use Rattle.guarantees.specs.Promises.{atTheEnd}
+use Rattle.guarantees.specs.Counts.{childCounts, childrenSince, total}
 use Rattle.guarantees.specs.Skipped.{takenByEvents, skipped}
 
 -- the calls of a caller who lends all that is left each time, up to the end of input: the first n calls on the bytes s,
@@ -40,6 +41,10 @@ bench = tableOf benchEntries benchParts
 abbrev seen : List Call → List Started × List ℕ × ℕ
 seen cs = (startsOpen bench (history benchEntries benchParts cs), parentsLeft benchParts bench (history benchEntries benchParts cs), position (history benchEntries benchParts cs))
 
+-- the children so far of every master that has not had its End
+abbrev counts : List Call → List ℕ
+counts cs = childCounts benchParts bench (history benchEntries benchParts cs)
+
 -- D1 up to its Amount, and then a recovery that passes over two bytes
 abbrev afterTwo : List Call
 afterTwo = recovering (0x00 ∷ 0x00 ∷ 0xA3 ∷ 0x80 ∷ []) ∷ lending (3 ∷ 2 ∷ 3 ∷ []) d1 []
@@ -64,6 +69,16 @@ pub record Seen : Type 0 where
   -- of the 10 bytes up to there events took 8, and 2 were passed over
   pub took : takenByEvents (history benchEntries benchParts afterTwo) ≡ 8
   pub passed-over : skipped (history benchEntries benchParts afterTwo) ≡ 2
+  -- D1 after its Data: Feed has had two children, Session one; D5 after its Amount: Feed has had one, and Session none,
+  -- since Feed never started
+  pub d1-counts : counts (lending (3 ∷ 2 ∷ 3 ∷ 4 ∷ []) d1 []) ≡ 2 ∷ 1 ∷ []
+  pub d5-counts : counts (lending (3 ∷ []) d5 []) ≡ 1 ∷ 0 ∷ []
+  -- the same looked up from the last event back to the Start of each
+  pub d1-back : childrenSince benchParts bench (history benchEntries benchParts (lending (3 ∷ 2 ∷ 3 ∷ 4 ∷ []) d1 [])) 1 ≡ 1
+  pub d5-back : childrenSince benchParts bench (history benchEntries benchParts (lending (3 ∷ []) d5 [])) 1 ≡ 0
+  -- an Amount of two bytes alone: the sum of the counts is just half the position, so `at-most-half` says no less than
+  -- it can
+  pub half-reached : 2 * total (counts (lending (2 ∷ []) (0xA2 ∷ 0x80 ∷ []) [])) ≡ position (history benchEntries benchParts (lending (2 ∷ []) (0xA2 ∷ 0x80 ∷ []) []))
   -- a recovery on a fresh decoder settles
   pub implying : seen (recovering d5 ∷ []) ≡ ([], 0xA1 ∷ 0x4E01 ∷ [], 0)
   -- a place that settles and then fails (17) leaves its parents implied
@@ -87,6 +102,11 @@ seen-so = record {
   recovered = refl;
   took = refl;
   passed-over = refl;
+  d1-counts = refl;
+  d5-counts = refl;
+  d1-back = refl;
+  d5-back = refl;
+  half-reached = refl;
   implying = refl;
   implying-failed = refl;
   not-read = refl;

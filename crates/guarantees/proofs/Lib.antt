@@ -27,6 +27,9 @@ pub mod Demand3
 pub mod InPlace
 pub mod Appears
 pub mod EmptyPlaces
+pub mod CountMoves
+pub mod CountsLookedUp
+pub mod Counted
 pub mod Skipped
 pub mod Needed
 pub mod Computing

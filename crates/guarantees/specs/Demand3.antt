@@ -22,6 +22,7 @@ use Rattle.guarantees.specs.Calls.{Call, ending, lent, answered, Step, r
 use Rattle.guarantees.specs.Settling.{seenParents}
 use Rattle.guarantees.specs.History.{declaredEnd, startsDeclared, parentsLeft, childTestNeverOff, neverRecovered}
 use Rattle.guarantees.specs.Promises.{eventKind, eventId, elementOffset, lastResponse, Answers, openAt, leftAt, positionAt, HeaderOf, HeaderAlone, WholeData, onlyLoose, EndMatches, EndsInside, NotFull, EndOr23, endingAgain, atTheEnd}
+use Rattle.guarantees.specs.Counts.{ChildCounts}
 use Rattle.guarantees.specs.Results.{Run, NewReturns, ByValue, ByReference, SameAsDefined}
 
 -- demand 3 of the table in these words
@@ -47,6 +48,9 @@ pub record Demand3 (es ps : List ℕ) : Type 1 where
   -- 3. Each End names the last Start still open or, where none is open, the innermost parent left of those implied
   -- because reading began below the root; Start and its End also agree in offset, and an implied parent's is 0
   pub end-matches : (cs : List Call) (c : Call) → Lent (c ∷ cs) → (end : WaitingEnd) → Answers es ps cs c (Event (End end)) → EndMatches (openAt es ps cs) (leftAt es ps cs c) end
+  -- and it carries how many children the events gave the master that it names: document 02, CR 10, "demand 3 adds: the
+  -- count equals that in the events handed out"
+  pub children : ChildCounts es ps
   -- parents are implied before all Starts and all Ends: the only events that came before are Data of an ID that has no
   -- type, or a Global in its path, so that nothing is open and no parent is left
   pub implied-first : (cs : List Call) (c : Call) → Lent (c ∷ cs) → (seenParents ps (tableOf es ps) (history es ps cs) (lent c) (lastResponse es ps cs c) ≡ [] → ⊥)

@@ -2,6 +2,7 @@ pub mod Calls
 pub mod Settling
 pub mod History
 pub mod Promises
+pub mod Counts
 pub mod Results
 pub mod CutRecords
 pub mod Appearing
