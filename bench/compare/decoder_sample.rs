@@ -122,7 +122,7 @@ fn best(
     best
 }
 
-/// Of each call: its name, the kind of its answer, and the kind of the answer before it.
+/// Of each call: its name, of a `set` the counts too, the kind of its answer, and the kind of the answer before it.
 fn classes(session: &Session) -> Vec<String> {
     let mut before = String::new();
     let mut classes = Vec::new();
@@ -130,13 +130,33 @@ fn classes(session: &Session) -> Vec<String> {
         let kind = kind(&answered.answer);
         let name = answered.call.split(' ').next().unwrap_or_default();
         let input = if answered.call.ends_with(" -") { "none" } else { "some" };
-        classes.push(format!("{name} {input} {kind} {before}"));
+        let counts = counts_set(&answered.call);
+        classes.push(format!("{name}{counts} {input} {kind} {before}"));
         before = kind;
     }
     classes
 }
 
-/// The first word; of a refusal the number too, and of 23 which fields are given.
+/// Where the greatest count of the open masters stands, and that of the waiting Ends, if the call sets any.
+fn counts_set(call: &str) -> String {
+    let field = |name: &str| call.split(' ').find_map(|word| word.strip_prefix(name));
+    let position: u64 = field("p=").and_then(|position| position.parse().ok()).unwrap_or(0);
+    let place = |counts: &str| {
+        let greatest = counts.split(',').filter_map(|count| count.parse().ok()).max();
+        greatest.map_or("", |greatest: u64| match greatest {
+            0 => "0",
+            _ if greatest < position => "<",
+            _ if greatest == position => "=",
+            _ => ">",
+        })
+    };
+    ["C=", "V="]
+        .map(|name| field(name).map_or_else(String::new, |counts| format!(" {name}{}", place(counts))))
+        .concat()
+}
+
+/// The first word; of an End whether it had no child, one or more; of a refusal the number too, and of 23 which fields
+/// are given.
 fn kind(answer: &str) -> String {
     let mut words = answer.split(' ');
     match words.next() {
@@ -145,6 +165,10 @@ fn kind(answer: &str) -> String {
             let number = words.next().unwrap_or_default();
             format!("X {number} {}", words.skip(2).map(given).collect::<String>())
         }
+        Some("E") => match words.find_map(|word| word.strip_prefix("count=")) {
+            Some(count @ ("0" | "1")) => format!("E {count}"),
+            _ => "E more".to_string(),
+        },
         word => word.unwrap_or_default().to_string(),
     }
 }

@@ -7,6 +7,7 @@ const IDS: [u64; 16] = [
 ];
 const SIZES: [u64; 8] = [0, 1, 2, 9, 100, 1 << 32, 1 << 56, (1 << 56) + 1];
 const POSITIONS: [u64; 8] = [0, 1, 3, 12, 1 << 20, (1 << 62) - 20, 1 << 62, (1 << 62) + 1];
+const COUNTS: [u64; 8] = [0, 0, 0, 1, 3, 12, 1 << 62, (1 << 62) + 1];
 const GREATEST: [&str; 8] = ["-", "0", "1", "5", "20", "4000000000", "72057594037927936", "18446744073709551615"];
 
 #[derive(Clone, Copy)]
@@ -79,8 +80,13 @@ impl Input<'_> {
         let waiting: Vec<String> = (0..self.next() % 3)
             .map(|_| format!("{:X}:{}", self.pick(&IDS), self.pick(&POSITIONS)))
             .collect();
+        let mut counts = |items: &[String]| {
+            let counts: Vec<String> = items.iter().map(|_| self.pick(&COUNTS).to_string()).collect();
+            listed(&counts)
+        };
+        let (open_counts, waiting_counts) = (counts(&open), counts(&waiting));
         format!(
-            "set p={position} s={} f={} O={} W={}",
+            "set p={position} s={} f={} O={} W={} C={open_counts} V={waiting_counts}",
             flags & 1,
             u8::from(flags & 0x0E == 0x0E),
             listed(&open),

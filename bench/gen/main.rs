@@ -7,6 +7,7 @@ mod prng;
 mod script;
 mod strings;
 
+mod counts;
 mod table;
 
 mod player;

@@ -7,6 +7,11 @@ impl Prng {
         Prng(seed)
     }
 
+    /// Another generator, for which nothing is taken from this one.
+    pub fn beside(&self) -> Self {
+        Prng(self.0.rotate_left(32))
+    }
+
     pub fn next(&mut self) -> u64 {
         self.0 = self.0.wrapping_add(0x9E37_79B9_7F4A_7C15);
         let mixed = (self.0 ^ (self.0 >> 30)).wrapping_mul(0xBF58_476D_1CE4_E5B9);

@@ -1,5 +1,6 @@
 //! Calls on records made by hand, at and over every limit of the state.
 
+use crate::counts::{over, within, Counts};
 use crate::limits::{GREATEST_POSITION, MOST_OPEN};
 use crate::player::Player;
 use crate::prng::Prng;
@@ -14,6 +15,7 @@ const RECORDS: usize = 40_000;
 pub fn generate(folder: &Path, prng: &mut Prng) -> io::Result<()> {
     let mut player = Player::create(folder, "decoder-records")?;
     let mut table = of_document();
+    let mut beside = prng.beside();
     player.lend_document_table()?;
     for turn in 0..RECORDS {
         if turn % 16 == 15 {
@@ -24,7 +26,8 @@ pub fn generate(folder: &Path, prng: &mut Prng) -> io::Result<()> {
             };
             player.call(&table.call(prng))?;
         }
-        let record = random_record(prng, &table);
+        let mut record = random_record(prng, &table);
+        record.count(&mut beside);
         player.call(&record.call())?;
         let mut unread = document(prng, &table, Faults { one_in: 8 });
         unread.truncate(1 + prng.index(60));
@@ -50,11 +53,12 @@ struct Hand {
     is_finished: bool,
     open: Vec<String>,
     waiting: Vec<String>,
+    counts: Option<Counts>,
 }
 
 impl Hand {
     fn call(&self) -> String {
-        format!(
+        let record = format!(
             "set a={} m={} p={} s={} f={} O={} W={}",
             self.allowances,
             self.greatest.map_or_else(|| "-".to_string(), |size| size.to_string()),
@@ -63,7 +67,22 @@ impl Hand {
             u8::from(self.is_finished),
             listed(self.open.clone()),
             listed(self.waiting.clone()),
-        )
+        );
+        let Some(counts) = &self.counts else {
+            return record;
+        };
+        let [open, waiting] = counts.each_ref().map(|list| listed(list.iter().map(u64::to_string)));
+        format!("{record} C={open} V={waiting}")
+    }
+
+    /// Counts of children in most records, in some of them one over the position.
+    fn count(&mut self, prng: &mut Prng) {
+        let held = [self.open.len(), self.waiting.len()];
+        self.counts = match prng.below(16) {
+            0..=3 => None,
+            4 => Some(over(prng, self.position, held)),
+            _ => Some(within(prng, self.position, held)),
+        };
     }
 
     /// A 33rd entry only says that there are too many; what `st` prints of it is left open.
@@ -92,6 +111,7 @@ fn sound_record(prng: &mut Prng, table: &Table) -> Hand {
         is_finished: prng.below(10) == 0,
         open: open_masters(prng, table, position, open_count),
         waiting: waiting_ends(prng, table, waiting_count),
+        counts: None,
     }
 }
 

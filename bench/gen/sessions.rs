@@ -1,8 +1,10 @@
 //! Sessions over streams that come in pieces.
 
+use crate::counts::{over, within, Counts};
 use crate::limits::MOST_OPEN;
 use crate::player::{Outcome, Player};
 use crate::prng::Prng;
+use crate::script::listed;
 use crate::stream::{damage, document, nested, Faults};
 use crate::table::{at_a_limit_of_shape, ill_formed, largest, of_document, well_formed};
 use crate::table::{Entry, Part, Table, ANYWHERE, MASTER};
@@ -46,6 +48,7 @@ fn session(player: &mut Player, prng: &mut Prng, table: &Table) -> io::Result<()
         damage(prng, &mut stream);
     }
     stream.truncate(600);
+    let beside = prng.beside();
     player.call("new")?;
     if prng.below(3) == 0 {
         switch(player, prng)?;
@@ -57,6 +60,7 @@ fn session(player: &mut Player, prng: &mut Prng, table: &Table) -> io::Result<()
         unread: Vec::new(),
         coming: stream,
         left: MOST_CALLS,
+        beside,
     }
     .play()
 }
@@ -79,6 +83,7 @@ struct Run<'a> {
     unread: Vec<u8>,
     coming: Vec<u8>,
     left: usize,
+    beside: Prng,
 }
 
 impl Run<'_> {
@@ -109,7 +114,33 @@ impl Run<'_> {
         if self.prng.below(5) == 0 || outcome == Outcome::Refused {
             self.player.call("st")?;
         }
+        if self.beside.below(60) == 0 {
+            self.count()?;
+        }
         Ok(outcome)
+    }
+
+    /// Sets the counts of the masters and the Ends that are held; in some cases first one of them over the position,
+    /// which every call refuses.
+    fn count(&mut self) -> io::Result<()> {
+        let state = self.player.call("st")?;
+        let field = |name: &str| state.split(' ').find_map(|word| word.strip_prefix(name)).unwrap_or("-");
+        let position = field("p=").parse().expect("a position");
+        let held = ["C=", "V="].map(|name| field(name).split(',').filter(|count| *count != "-").count());
+        if held != [0, 0] && self.beside.below(4) == 0 {
+            let counts = over(&mut self.beside, position, held);
+            self.set(&counts)?;
+            for name in ["decode", "recover", "eof"] {
+                self.player.lend(name, &mut self.unread.clone())?;
+            }
+        }
+        let counts = within(&mut self.beside, position, held);
+        self.set(&counts)
+    }
+
+    fn set(&mut self, counts: &Counts) -> io::Result<()> {
+        let [open, waiting] = counts.each_ref().map(|list| listed(list.iter().map(u64::to_string)));
+        self.player.call(&format!("set C={open} V={waiting}")).map(drop)
     }
 
     fn receive(&mut self, pieces: usize) {
@@ -205,6 +236,7 @@ fn deep(folder: &Path, prng: &mut Prng) -> io::Result<()> {
         player.call(&table.call(prng))?;
         player.call("new")?;
         player.call(&format!("allow {allowances}"))?;
+        let beside = prng.beside();
         Run {
             player: &mut player,
             prng,
@@ -212,6 +244,7 @@ fn deep(folder: &Path, prng: &mut Prng) -> io::Result<()> {
             unread: Vec::new(),
             coming: stream,
             left: 2 * MOST_CALLS,
+            beside,
         }
         .play()?;
     }

@@ -40,13 +40,13 @@ fn short_bytes(folder: &Path) -> io::Result<()> {
 
 /// Records in the midst of a stream.
 const MIDWAY: [&str; 7] = [
-    "a=0 m=4000000000 p=3 s=1 f=0 O=4E01:u:0:3 W=-",
-    "a=0 m=4000000000 p=5 s=1 f=0 O=4E01:u:0:3,A1:u:3:5 W=-",
-    "a=0 m=4000000000 p=5 s=1 f=0 O=4E01:5:0:3,A1:u:3:5 W=-",
+    "a=0 m=4000000000 p=3 s=1 f=0 O=4E01:u:0:3 W=- C=2 V=-",
+    "a=0 m=4000000000 p=5 s=1 f=0 O=4E01:u:0:3,A1:u:3:5 W=- C=1,0 V=-",
+    "a=0 m=4000000000 p=5 s=1 f=0 O=4E01:5:0:3,A1:u:3:5 W=- C=5,4 V=-",
     "a=0 m=4000000000 p=5 s=1 f=0 O=4E01:u:0:3,A1:2:3:5 W=-",
-    "a=0 m=1 p=5 s=1 f=0 O=4E01:6:0:3,A1:4:3:5 W=A1:7",
-    "a=3 m=- p=5 s=0 f=0 O=EC:2:3:5 W=-",
-    "a=0 m=4000000000 p=5 s=1 f=1 O=4E01:u:0:0 W=-",
+    "a=0 m=1 p=5 s=1 f=0 O=4E01:6:0:3,A1:4:3:5 W=A1:7 C=3,1 V=5",
+    "a=3 m=- p=5 s=0 f=0 O=EC:2:3:5 W=- C=5 V=-",
+    "a=0 m=4000000000 p=5 s=1 f=1 O=4E01:u:0:0 W=- C=1 V=-",
 ];
 
 fn from_midway(player: &mut Player, record: &str, stream: Vec<u8>) -> io::Result<()> {

@@ -1,5 +1,6 @@
 //! The decoder's calls: tag_decoder.rs.
 
+use crate::counts::Counts;
 use crate::fields::{bytes, list, unsigned, word};
 use crate::guard::guarded;
 use crate::missing::{is_size_begun, missing_of_header_and_payload};
@@ -26,12 +27,14 @@ type Answered = Result<Option<PositionedTag<Tag>>, TagIteratorError>;
 
 pub struct Session {
     decoder: TagDecoder<Tag>,
+    counts: Counts,
 }
 
 impl Default for Session {
     fn default() -> Self {
         Session {
             decoder: TagDecoder::new(&[]),
+            counts: Counts::default(),
         }
     }
 }
@@ -45,9 +48,11 @@ impl Session {
             ["max", "-"] => self.decoder.set_max_allowable_tag_size(None),
             ["max", size] => self.decoder.set_max_allowable_tag_size(Some(number(size)?)),
             ["set", settings @ ..] if !settings.is_empty() => {
-                self.decoder = set(self.record(), settings)?.into_decoder()
+                let (record, counts) = set(self.record(), self.counts.clone(), settings)?;
+                self.decoder = record.into_decoder();
+                self.counts = counts;
             }
-            ["st"] => return Some(state(&self.record())),
+            ["st"] => return Some(state(&self.record(), &self.counts)),
             ["decode", input] => return Some(self.step(&bytes(input)?, TagDecoder::decode)),
             ["eof", input] => return Some(self.step(&bytes(input)?, TagDecoder::decode_eof)),
             ["recover", input] => return Some(self.recover(&bytes(input)?)),
@@ -62,16 +67,27 @@ impl Session {
 
     fn step(&mut self, input: &[u8], call: fn(&mut TagDecoder<Tag>, &mut BytesMut) -> Answered) -> String {
         let before = self.record();
-        if let Some(answer) = not_asked(&before, input) {
+        if let Some(answer) = not_asked(&before, &self.counts, input) {
             return answer;
         }
         let mut lent = BytesMut::from(input);
         let answered = guarded(AssertUnwindSafe(|| call(&mut self.decoder, &mut lent)));
         let taken = input.len() - lent.len();
+        self.note_settling(&before, input);
+        let answer = self.answer_to(answered, before, input, taken);
+        self.compare_counts();
+        answer
+    }
+
+    fn answer_to(&mut self, answered: Option<Answered>, before: Record<Tag>, input: &[u8], taken: usize) -> String {
         match answered {
             None => self.take_back(before, input, "PANIC"),
             Some(Ok(Some(_))) if self.record().open.len() > MOST_OPEN => self.take_back(before, input, "LIMIT"),
-            Some(Ok(Some(tag))) => format!("{} {}", event(tag, input, taken), self.reached(taken)),
+            Some(Ok(Some(tag))) => {
+                let count = self.counts.hand_out(&tag.tag, self.record().open.len());
+                let count = count.map_or_else(String::new, |count| format!(" count={count}"));
+                format!("{} {}{count}", event(tag, input, taken), self.reached(taken))
+            }
             Some(Ok(None)) if self.record().is_finished => format!("F {}", self.reached(taken)),
             Some(Ok(None)) => format!("N {} need={}", self.reached(taken), self.missing(input)),
             Some(Err(error)) => {
@@ -79,6 +95,26 @@ impl Session {
                 refusal(&error, before.position, input)
             }
         }
+    }
+
+    /// If the call has settled: the Rust settles the record before the call once more, and its parents are counted.
+    fn note_settling(&mut self, before: &Record<Tag>, input: &[u8]) {
+        if let (true, Some(id)) = (self.has_settled(before), read_id(input)) {
+            let mut decoder = before.clone().into_decoder();
+            settle(&mut decoder, id);
+            self.counts.settle(Record::of(&decoder).open.len());
+        }
+    }
+
+    fn has_settled(&self, before: &Record<Tag>) -> bool {
+        self.record().is_settled && !before.is_settled
+    }
+
+    /// There are as many counts as the Rust has open masters and waiting Ends.
+    fn compare_counts(&self) {
+        let record = self.record();
+        assert_eq!(self.counts.open.len(), record.open.len());
+        assert_eq!(self.counts.waiting.len(), record.waiting.len());
     }
 
     /// How many bytes are missing, by the bytes alone. The Rust is asked too, on the record as it is: with fewer it asks
@@ -109,7 +145,7 @@ impl Session {
 
     /// Puts the record back as it was before the call, but for a settling that the call made.
     fn take_back(&mut self, before: Record<Tag>, input: &[u8], why: &str) -> String {
-        let has_settled = self.record().is_settled && !before.is_settled;
+        let has_settled = self.has_settled(&before);
         let position = before.position;
         let number = match why {
             "LIMIT" => 19,
@@ -125,10 +161,14 @@ impl Session {
 
     fn recover(&mut self, input: &[u8]) -> String {
         let before = self.record();
-        if let Some(answer) = not_asked(&before, input) {
+        if let Some(answer) = not_asked(&before, &self.counts, input) {
             return answer;
         }
         let walk = self.walk(input);
+        if self.has_settled(&before) {
+            self.counts.settle(self.record().open.len());
+        }
+        self.compare_counts();
         if walk.has_failed {
             self.grow(if walk.is_found { walk.passed } else { 0 });
             return format!("HANGS {}", self.recovered(walk.is_found, walk.passed));
@@ -192,12 +232,12 @@ struct Walk {
 }
 
 /// The refusals that the Rust does not have and that come before all others.
-fn not_asked(record: &Record<Tag>, input: &[u8]) -> Option<String> {
+fn not_asked(record: &Record<Tag>, counts: &Counts, input: &[u8]) -> Option<String> {
     let position = record.position as u64;
     if !is_lent() {
         return Some("NOTABLE".to_string());
     }
-    if !is_in_bounds(record) {
+    if !is_in_bounds(record) || !are_counts_in_bounds(counts, position) {
         return Some(format!("LIMIT X 11 {position}"));
     }
     if position + input.len() as u64 > GREATEST_POSITION {
@@ -220,6 +260,11 @@ fn is_open_in_bounds(open: &Open, position: u64) -> bool {
         EBMLSize::Unknown => true,
     };
     is_size_in_bounds && open.data_start as u64 <= position
+}
+
+fn are_counts_in_bounds(counts: &Counts, position: u64) -> bool {
+    let within = |count: &u64| *count <= position;
+    counts.open.iter().all(within) && counts.waiting.iter().all(within)
 }
 
 fn event(tag: PositionedTag<Tag>, input: &[u8], taken: usize) -> String {
@@ -315,9 +360,9 @@ fn number(field: &str) -> Option<usize> {
     unsigned(field).map(|number| number as usize)
 }
 
-fn state(record: &Record<Tag>) -> String {
+fn state(record: &Record<Tag>, counts: &Counts) -> String {
     format!(
-        "st a={} m={} p={} s={} f={} O={} W={}",
+        "st a={} m={} p={} s={} f={} O={} W={} C={} V={}",
         record.allowed,
         or_dash(record.greatest.map(|size| size.to_string())),
         record.position,
@@ -325,6 +370,8 @@ fn state(record: &Record<Tag>) -> String {
         u8::from(record.is_finished),
         joined(record.open.iter().map(open_text)),
         joined(record.waiting.iter().map(waiting_text)),
+        joined(counts.open.iter().map(u64::to_string)),
+        joined(counts.waiting.iter().map(u64::to_string)),
     )
 }
 
@@ -348,7 +395,7 @@ fn waiting_text(waiting: &PositionedTag<Tag>) -> String {
     format!("{id:X}:{}", waiting.offset)
 }
 
-fn set(mut record: Record<Tag>, settings: &[&str]) -> Option<Record<Tag>> {
+fn set(mut record: Record<Tag>, mut counts: Counts, settings: &[&str]) -> Option<(Record<Tag>, Counts)> {
     let mut keys: Vec<&str> = Vec::new();
     for setting in settings {
         let (key, value) = setting.split_once('=')?;
@@ -362,12 +409,25 @@ fn set(mut record: Record<Tag>, settings: &[&str]) -> Option<Record<Tag>> {
             "p" => record.position = number(value)?,
             "s" => record.is_settled = flag(value)?,
             "f" => record.is_finished = flag(value)?,
-            "O" => record.open = short_list(value, open)?,
-            "W" => record.waiting = short_list(value, waiting)?,
+            "O" => {
+                record.open = short_list(value, open)?;
+                counts.open = vec![0; record.open.len()];
+            }
+            "W" => {
+                record.waiting = short_list(value, waiting)?;
+                counts.waiting = vec![0; record.waiting.len()];
+            }
+            "C" => counts.open = counts_of(value, record.open.len())?,
+            "V" => counts.waiting = counts_of(value, record.waiting.len())?,
             _ => return None,
         }
     }
-    Some(record)
+    Some((record, counts))
+}
+
+/// Exactly as many counts as there are masters or Ends.
+fn counts_of(field: &str, held: usize) -> Option<Vec<u64>> {
+    list(field, unsigned).filter(|counts| counts.len() == held)
 }
 
 fn none_or<T>(field: &str, none: &str, read: impl Fn(&str) -> Option<T>) -> Option<Option<T>> {

@@ -1,5 +1,6 @@
 //! Answers a script of calls from the original Rust.
 
+mod counts;
 mod decoder;
 pub mod fields;
 mod guard;
