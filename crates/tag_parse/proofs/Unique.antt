@@ -10,6 +10,8 @@ use Rattle.tag_parse.proofs.header.read_header.Reads as read-header
 use Rattle.tag_parse.proofs.header.read_header.Kinds as read-header-kinds
 use Rattle.tag_parse.proofs.header.size_of.Reads as size-of
 use Rattle.tag_parse.proofs.header.size_of.Kinds as size-of-kinds
+use Rattle.tag_parse.proofs.payload.value_of.Reads as value-of
+use Rattle.tag_parse.proofs.payload.value_of.Kinds as value-of-kinds
 use Rattle.tag_parse.proofs.payload.read_data_tag.Reads as read-data-tag
 use Rattle.tag_parse.proofs.payload.read_data_tag.Kinds as read-data-tag-kinds
 use Rattle.tag_parse.proofs.types.parse_number.Reads as parse-number
@@ -20,6 +22,9 @@ read-tag-id-one κs a = one-answer (λ r e p. p)
 
 pub read-header-one : (κs : Lfts 3) (a : Dens κs read-header-kinds.ps) → OneAnswer (read-header.Post κs a) answer
 read-header-one κs a = one-answer (λ r e p. p)
+
+pub value-of-one : (κs : Lfts 1) (a : Dens κs value-of-kinds.ps) → OneAnswer (value-of.Post κs a) answer
+value-of-one κs a = one-answer (λ r e p. p)
 
 pub read-data-tag-one : (κs : Lfts 1) (a : Dens κs read-data-tag-kinds.ps) → OneAnswer (read-data-tag.Post κs a) answer
 read-data-tag-one κs a = one-answer (λ r e p. p)

@@ -30,6 +30,10 @@ use Rattle.tools.proofs.signed_vint.as_signed_vint_with_length.Reads as
 use Rattle.tools.proofs.signed_vint.as_signed_vint_with_length.Kinds as as-signed-vint-with-length-kinds
 use Rattle.tools.proofs.integer.absolute_value.Reads as absolute-value
 use Rattle.tools.proofs.integer.absolute_value.Kinds as absolute-value-kinds
+use Rattle.tools.proofs.integer.unsigned_of.Reads as unsigned-of
+use Rattle.tools.proofs.integer.unsigned_of.Kinds as unsigned-of-kinds
+use Rattle.tools.proofs.integer.integer_of.Reads as integer-of
+use Rattle.tools.proofs.integer.integer_of.Kinds as integer-of-kinds
 use Rattle.tools.proofs.integer.arr_to_u64.Reads as arr-to-u64
 use Rattle.tools.proofs.integer.arr_to_u64.Kinds as arr-to-u64-kinds
 use Rattle.tools.proofs.integer.arr_to_i64.Reads as arr-to-i64
@@ -81,6 +85,12 @@ as-signed-vint-with-length-one κs a = one-answer (λ r e p. given p)
 
 pub absolute-value-one : (κs : Lfts 0) (a : Dens κs absolute-value-kinds.ps) → OneAnswer (absolute-value.Post κs a) answer
 absolute-value-one κs a = one-answer (λ r e p. p)
+
+pub unsigned-of-one : (κs : Lfts 1) (a : Dens κs unsigned-of-kinds.ps) → OneAnswer (unsigned-of.Post κs a) answer
+unsigned-of-one κs a = one-answer (λ r e p. p)
+
+pub integer-of-one : (κs : Lfts 1) (a : Dens κs integer-of-kinds.ps) → OneAnswer (integer-of.Post κs a) answer
+integer-of-one κs a = one-answer (λ r e p. p)
 
 pub arr-to-u64-one : (κs : Lfts 1) (a : Dens κs arr-to-u64-kinds.ps) → OneAnswer (arr-to-u64.Post κs a) answer
 arr-to-u64-one κs a = one-answer (λ r e p. p)
