@@ -215,6 +215,8 @@ static inline const char *ebml_refusal_text(int number)
     case 33: return "a master's path in the table holds a global part";
     case 34: return "a path in the table names an ID that is no master of it";
     case 35: return "two paths in the table disagree about a master's parents";
+    case 80: return "strictly: an ID that no file may hold, or longer than 4 bytes";
+    case 81: return "strictly: an element without a size whose header reaches past the end of the master around it";
     default: return "no refusal has this number";
     }
 }

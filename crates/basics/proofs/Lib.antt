@@ -2,6 +2,7 @@ pub mod Bools
 pub mod Every
 pub mod Least
 pub mod Loops
+pub mod Maps
 pub mod Sums
 pub mod ArrayOf32
 pub mod Computing

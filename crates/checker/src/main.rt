@@ -1,6 +1,7 @@
 // The check of a night: reads a record on standard input and says in one line whether it is whole, with the bench
 // table. It only reads, calls and writes: the answers that it goes by and what it does with its buffer are proved in
-// event_list, and the verdict in whole. Where the input cannot be read, or the line cannot be written, it says so on
+// event_list, and the verdict in whole. With no argument the record is read as ported; one, `ported` or `strict`, says
+// how it is read. Where the input cannot be read, the line cannot be written or there is no such mode, it says so on
 // standard error, and there is no line.
 
 use event_list::listing::after_read;
@@ -11,6 +12,7 @@ use event_list::types::Listing;
 use event_list::types::Next;
 use libc::STDERR_FILENO;
 use libc::STDOUT_FILENO;
+use reading::arguments::mode_at;
 use reading::read_input;
 use whole::check::seen_after;
 use whole::check::verdict_at;
@@ -88,8 +90,8 @@ fn step(buffer: &mut [u8], l: Listing, seen: Seen) -> Progress {
 }
 
 // Nothing says that an input ends, so the steps are counted down from a number that no run uses up.
-fn check(buffer: &mut [u8]) {
-    let mut listing = start();
+fn check(strict: bool, buffer: &mut [u8]) {
+    let mut listing = start(strict);
     let mut seen = whole::check::start();
     let mut steps_left = u64::MAX;
     while 0 < steps_left {
@@ -103,8 +105,18 @@ fn check(buffer: &mut [u8]) {
     }
 }
 
-// The verdict on standard input.
-fn main() {
+// The verdict on standard input, read strictly or as ported.
+fn check_input(strict: bool) {
     let mut buffer = [0u8; BUFFER_SIZE];
-    check(&mut buffer);
+    check(strict, &mut buffer);
+}
+
+// The same in the mode that the argument names.
+fn main() {
+    let mode = mode_at(1);
+    if mode.is_known {
+        check_input(mode.strict);
+        return;
+    }
+    io::write_all(STDERR_FILENO, b"ebml-check: the mode is ported or strict\n");
 }

@@ -1,5 +1,5 @@
 -- No second answer meets a contract of this crate, as the checker reads it. A contract that is made of every record that
--- looks so fixes the answer where there is such a record: for close_or_fault and step10 there always is one, and for
+-- looks so fixes the answer where there is such a record: for close_or_fault there always is one, and for
 -- valid_header and decide, which are handed what was seen of a record, it is asked for. Assumes nothing.
 use Prim.Native.Nat.{ℕ, min, _≤_}
 use mathlib.Core.Path.{_≡_}
@@ -28,8 +28,6 @@ use Rattle.decoder_decide.proofs.closing.all_masters.Reads as all-maste
 use Rattle.decoder_decide.proofs.closing.all_masters.Kinds as all-masters-kinds
 use Rattle.decoder_decide.proofs.closing.close_or_fault.Reads as close-or-fault
 use Rattle.decoder_decide.proofs.closing.close_or_fault.Kinds as close-or-fault-kinds
-use Rattle.decoder_decide.proofs.closing.step10.Reads as step10
-use Rattle.decoder_decide.proofs.closing.step10.Kinds as step10-kinds
 use Rattle.decoder_decide.proofs.element.step11.Reads as step11
 use Rattle.decoder_decide.proofs.element.step11.Kinds as step11-kinds
 use Rattle.decoder_decide.proofs.decide.is_id_allowed.Reads as is-id-allowed
@@ -99,13 +97,6 @@ has-ids ids n h =
 
 pub close-or-fault-one : (κs : Lfts 3) (a : Dens κs close-or-fault-kinds.ps) → close-or-fault.Pre κs a → OneAnswer (close-or-fault.Post κs a) answer
 close-or-fault-one κs a h = let ids = now (a .1 .1 .0) in let n = a .1 .1 .1 .1 .0 in one-answer (λ r e p. p (withIds ids n) (has-ids ids n h))
-
-pub step10-one : (κs : Lfts 4) (a : Dens κs step10-kinds.ps) → step10.Pre κs a → OneAnswer (step10.Post κs a) answer
-step10-one κs a h =
-    let ids = now (a .1 .1 .0) in
-    let knowns = now (a .1 .1 .1 .0) in
-    let n = a .1 .1 .1 .1 .0 in
-    one-answer (λ r e p. p (mastersShown ids knowns n) (shows-those-read ids knowns n (h .0) (h .1)))
 
 -- ---- of every record that was seen so: one is asked for
 

@@ -1,16 +1,18 @@
 -- What helpers' contracts use: what the tests have shown where a header is judged, so that no sum wraps and no place is
 -- missed.
 use Prim.Native.Nat.{ℕ, _≤_, _<_}
-use mathlib.Core.Bool.{Bool, true, _||_}
+use mathlib.Core.Bool.{Bool, true, cond, _&&_, _||_}
 use mathlib.Core.List.{List}
 use mathlib.Core.Path.{_≡_}
 use lib.ListN.{length}
 use Rattle.table.specs.Shape.{mostParts}
 use Rattle.table.specs.Table.{tableOf, partsOf, partsIn, pathOf, isTyped}
-use Rattle.table.specs.declared.types.TagDataType.{TagDataType}
 use Rattle.tag_parse.specs.declared.types.TagHeader.{TagHeader}
 use Rattle.spec_util.specs.Walk.{mostOpen}
 use Rattle.decoder_rules.specs.Record.{farthest, sizeLimit}
+use Rattle.decoder_rules.specs.OneCall.{goodForm}
+use Rattle.decoder_rules.specs.declared.types.DecodeError.{DecodeError}
+use Rattle.decoder_rules.specs.declared.types.DecodeError.the-variants as error
 use Rattle.decoder_rules.specs.declared.types.TagDecoder.{TagDecoder}
 use Rattle.decoder_look.specs.Summary.{unbounded, headerView}
 use Rattle.decoder_decide.specs.Bounds.{longestHeader, FitsKind}
@@ -55,6 +57,10 @@ pub record GoodHeader (es ps : List ℕ) (h : TagHeader) : Type 0 where
   pub path : partsIn (partsOf ps) (h .path) ≡ pathOf (tableOf es ps) (h .id)
   pub few : length (partsIn (partsOf ps) (h .path)) ≤ mostParts
 
--- step 6, of the setting and the type that it reads
-abbrev pub isIdAllowed : Bool → TagDataType → Bool
-isIdAllowed allowed kind = isTyped kind || allowed
+-- step 6, of the settings that it reads
+abbrev pub isIdAllowed : Bool → Bool → TagHeader → Bool
+isIdAllowed strict allowed h = goodForm strict (h .id) && (isTyped (h .kind) || allowed)
+
+-- what is refused where not
+abbrev pub idRefusal : Bool → ℕ → DecodeError
+idRefusal strict x = cond (goodForm strict x) error.InvalidTagId error.InvalidIdForm

@@ -1,16 +1,14 @@
-// Which masters close, and whether they may. The masters' IDs stand in lent words.
+// Whether masters may close. Their IDs stand in lent words.
 
-ghost use mathlib.Core.List.{reverse};
 ghost use mathlib.Core.Path.{_≡_};
-ghost use Prim.Native.Nat.{_-_, _≤_};
+ghost use Prim.Native.Nat.{_≤_};
 ghost use lib.ListN.{length, take, drop};
 ghost use Rattle.basics.specs.Lists.{every};
 ghost use Rattle.table.specs.Table.{tableOf, dataTypeOf, isMaster};
-ghost use Rattle.decoder_rules.specs.OneCall.{closeOrFault, endedTops};
-ghost use Rattle.decoder_look.specs.Summary.{ForEveryRecordWithIds, ForEveryMasters};
+ghost use Rattle.decoder_rules.specs.OneCall.{closeOrFault};
+ghost use Rattle.decoder_look.specs.Summary.{ForEveryRecordWithIds};
 use decoder_rules::types::Action;
 use decoder_rules::types::DecodeError;
-use spec_util::ended::is_ended_by;
 use table::lookup::get_tag_data_type;
 use table::lookup::is_master;
 
@@ -38,29 +36,4 @@ pub fn close_or_fault(entries: &[u64], parts: &[u64], ids: &[u64], k: usize, n: 
         return Action::Close(k);
     }
     Action::Refuse(DecodeError::NotAMaster)
-}
-
-// How many of `count` masters stay open, where those at the top close that are Unknown and ended by the ID.
-pub fn step10(
-    entries: &[u64],
-    parts: &[u64],
-    ids: &[u64],
-    knowns: &[bool],
-    count: usize,
-    id: u64,
-) -> usize
-    requires { ⌜ (count ≤ length (now ids)) × (count ≤ length (now knowns)) ⌝ }
-    ensures { λ r. ⌜ ForEveryMasters (now (ids .entry)) (now (knowns .entry)) count (λ l. r ≡ count - endedTops (tableOf (now (entries .entry)) (now (parts .entry))) id (reverse l)) ⌝ }
-{
-    let mut n = count;
-    while 0 < n {
-        if knowns[n - 1] {
-            return n;
-        }
-        if !is_ended_by(entries, parts, ids[n - 1], id) {
-            return n;
-        }
-        n -= 1;
-    }
-    0
 }

@@ -5,14 +5,14 @@ ghost use Prim.Native.Nat.{_≤_};
 ghost use lib.ListN.{length};
 ghost use Rattle.table.specs.Table.{tableOf, partsOf, partsIn};
 ghost use Rattle.decoder_rules.specs.Record.{implied, settledTo};
+ghost use Rattle.decoder_rules.specs.OneCall.{goodForm};
 ghost use Rattle.decoder_rules.specs.Deciding.{plain, steps8-11, steps6-11, decide};
 ghost use Rattle.decoder_look.specs.Summary.{ForEveryRecordSeenAs, ForEveryRecordSummedUpAs};
-ghost use Rattle.decoder_decide.specs.GoodViews.{GoodView, SoundSummary, GoodHeader, isIdAllowed, settledView, ForSettled};
+ghost use Rattle.decoder_decide.specs.GoodViews.{GoodView, SoundSummary, GoodHeader, isIdAllowed, idRefusal, settledView, ForSettled};
 ghost use Rattle.table.specs.Shape.{mostParts};
 ghost use Rattle.spec_util.specs.Walk.{mostOpen};
 use crate::checks::check_10_to_13;
 use crate::closing::close_or_fault;
-use crate::closing::step10;
 use crate::element::step11;
 use crate::header::settling_note;
 use crate::header::valid_header;
@@ -25,6 +25,7 @@ use decoder_rules::types::Check;
 use decoder_rules::types::Decision;
 use decoder_rules::types::DecodeError;
 use decoder_rules::types::Note;
+use spec_util::place::left_open;
 use spec_util::types::MOST_OPEN;
 use table::lookup::is_typed;
 use table::parts::path_length;
@@ -34,9 +35,13 @@ use table::types::PathPart;
 use tag_parse::header::read_header;
 use tag_parse::types::ReadHeader;
 use tag_parse::types::TagHeader;
+use tools::element_id::element_id_length;
 
 // The bytes of the least header: one of its ID, one of its size.
 const LEAST_HEADER: usize = 2;
+
+// An ID that is taken strictly has so many bytes at most.
+const LONGEST_STRICT_ID: usize = 4;
 
 // A decision with no note.
 fn plain(action: Action) -> Decision
@@ -48,15 +53,38 @@ fn plain(action: Action) -> Decision
     }
 }
 
-// 6: the ID has a type, or needs none.
-pub fn is_id_allowed(allow_ids: bool, h: TagHeader) -> bool
-    ensures { λ r. ⌜ r ≡ isIdAllowed «allow_ids» (h .kind) ⌝ }
+// Whether the ID has a form that is taken, strictly or as ported.
+fn good_form(strict: bool, id: u64) -> bool
+    ensures { λ r. ⌜ r ≡ goodForm strict id ⌝ }
+{
+    if strict {
+        return element_id_length(id) <= LONGEST_STRICT_ID;
+    }
+    true
+}
+
+// 6: the ID's form is taken, and it has a type, or needs none.
+pub fn is_id_allowed(strict: bool, allow_ids: bool, h: TagHeader) -> bool
+    ensures { λ r. ⌜ r ≡ isIdAllowed strict «allow_ids» h ⌝ }
 {
     let kind = h.kind;
+    if !good_form(strict, h.id) {
+        return false;
+    }
     if is_typed(kind) {
         return true;
     }
     allow_ids
+}
+
+// What is refused where 6 refuses an ID: 80 for its form, else 15.
+fn id_refusal(strict: bool, id: u64) -> DecodeError
+    ensures { λ r. ⌜ r ≡ idRefusal strict id ⌝ }
+{
+    if good_form(strict, id) {
+        return DecodeError::InvalidTagId;
+    }
+    DecodeError::InvalidIdForm
 }
 
 // 8 to 11, of a record that has its note.
@@ -77,11 +105,12 @@ fn steps8_11(
     if let Check::Fail(e) = valid_header(entries, parts, view, ids, knowns, h) {
         return Action::Refuse(e);
     }
-    let kept = step10(entries, parts, ids, knowns, count, h.id);
+    let strict = view.settings.strict;
+    let kept = left_open(strict, entries, parts, h.id, ids, knowns, count);
     if kept < count {
         return close_or_fault(entries, parts, ids, kept, count);
     }
-    step11(count, view.position, h, input)
+    step11(strict, count, view.position, h, input)
 }
 
 // The ID that a part of a path names.
@@ -132,7 +161,7 @@ fn settling(
     steps8_11(entries, parts, noted, &ids, &knowns, h, input)
 }
 
-// 6 to 11: an ID without a type is refused, else the note, and the steps after it on the record with it.
+// 6 to 11: the refusal of 6, else the note, and the steps after it on the record with it.
 fn steps6_11(
     entries: &[u64],
     parts: &[u64],
@@ -146,8 +175,9 @@ fn steps6_11(
     requires { ⌜ GoodView view × GoodHeader (now entries) (now parts) h ⌝ }
     ensures { λ r. ⌜ ForEveryRecordSeenAs view (now (ids .entry)) (now (knowns .entry)) (λ d. r ≡ steps6-11 (now (parts .entry)) (tableOf (now (entries .entry)) (now (parts .entry))) d h (now (input .entry))) ⌝ }
 {
-    if !is_id_allowed(view.settings.allow_ids, h) {
-        return plain(Action::Refuse(DecodeError::InvalidTagId));
+    let strict = view.settings.strict;
+    if !is_id_allowed(strict, view.settings.allow_ids, h) {
+        return plain(Action::Refuse(id_refusal(strict, h.id)));
     }
     let note = settling_note(parts, view.settled, h);
     if let Note::Settle(path) = note {

@@ -29,9 +29,9 @@ fn data_or(id: u64, taken: usize, r: ReadValue) -> Action
 }
 
 // An element with n bytes of payload after its header.
-fn read_element(position: u64, h: TagHeader, n: u64, input: &[u8]) -> Action
+fn read_element(strict: bool, position: u64, h: TagHeader, n: u64, input: &[u8]) -> Action
     requires { ⌜ (position ≤ farthest) × (h .len ≤ longestHeader) × (n < sizeLimit) × (isInteger (h .kind) ≡ true → n ≤ 8) ⌝ }
-    ensures { λ r. ⌜ r ≡ readElement position h n (now (input .entry)) ⌝ }
+    ensures { λ r. ⌜ r ≡ readElement strict position h n (now (input .entry)) ⌝ }
 {
     let len = h.len;
     let kind = h.kind;
@@ -45,24 +45,28 @@ fn read_element(position: u64, h: TagHeader, n: u64, input: &[u8]) -> Action
         begin: position + len as u64,
         end: position + total as u64,
     };
-    data_or(h.id, total, value_of(kind, &input[len..total], range))
+    data_or(
+        h.id,
+        total,
+        value_of(strict, kind, &input[len..total], range),
+    )
 }
 
 // An element that is no Master, with this size in its header.
-fn element_of(position: u64, h: TagHeader, size: EBMLSize, input: &[u8]) -> Action
+fn element_of(strict: bool, position: u64, h: TagHeader, size: EBMLSize, input: &[u8]) -> Action
     requires { ⌜ (position ≤ farthest) × (h .len ≤ longestHeader) × SmallSize size × FitsKind (h .kind) size ⌝ }
-    ensures { λ r. ⌜ r ≡ elementOf position h size (now (input .entry)) ⌝ }
+    ensures { λ r. ⌜ r ≡ elementOf strict position h size (now (input .entry)) ⌝ }
 {
     match size {
         EBMLSize::Unknown => Action::Refuse(DecodeError::InvalidTagData),
-        EBMLSize::Known(n) => read_element(position, h, n, input),
+        EBMLSize::Known(n) => read_element(strict, position, h, n, input),
     }
 }
 
 // Step 11 with so many masters open: a Start, or an element that is none.
-pub fn step11(open_count: usize, position: u64, h: TagHeader, input: &[u8]) -> Action
+pub fn step11(strict: bool, open_count: usize, position: u64, h: TagHeader, input: &[u8]) -> Action
     requires { ⌜ (position ≤ farthest) × (h .len ≤ longestHeader) × SmallSize (h .size) × FitsKind (h .kind) (h .size) ⌝ }
-    ensures { λ r. ⌜ r ≡ step11 «open_count» position h (now (input .entry)) ⌝ }
+    ensures { λ r. ⌜ r ≡ step11 strict «open_count» position h (now (input .entry)) ⌝ }
 {
     let kind = h.kind;
     let size = h.size;
@@ -76,5 +80,5 @@ pub fn step11(open_count: usize, position: u64, h: TagHeader, input: &[u8]) -> A
             len: h.len,
         };
     }
-    element_of(position, h, size, input)
+    element_of(strict, position, h, size, input)
 }

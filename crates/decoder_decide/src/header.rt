@@ -1,20 +1,22 @@
 // Steps 7 to 9: what the record, as it was seen, says of a header.
 
 ghost use mathlib.Core.Path.{_≡_};
-ghost use Prim.Native.Nat.{_≤_, _<_};
+ghost use Prim.Native.Nat.{_+_, _≤_, _<_};
 ghost use lib.ListN.{length};
 ghost use Rattle.table.specs.Table.{tableOf, partsOf, partsIn, pathOf};
-ghost use Rattle.decoder_rules.specs.OneCall.{step8, validHeader};
-ghost use Rattle.decoder_look.specs.Summary.{ForEveryRecordSeenAs};
+ghost use Rattle.decoder_rules.specs.OneCall.{step8, fitsInside, step9, validHeader};
+ghost use Rattle.decoder_look.specs.Summary.{unbounded, ForEveryRecordSeenAs};
 ghost use Rattle.decoder_decide.specs.Parts.{knownSize, doesSettle, settlingNote, isWalked, sizeChecked};
 ghost use Rattle.spec_util.specs.Walk.{mostOpen};
 ghost use Rattle.decoder_rules.specs.Record.{farthest, sizeLimit};
 ghost use Rattle.decoder_decide.specs.Bounds.{longestHeader};
+ghost use Rattle.decoder_decide.specs.GoodViews.{ForSettled};
+ghost use Rattle.tag_parse.specs.declared.types.EBMLSize.the-variants.{Known, Unknown};
 use decoder_look::summary::HeaderView;
 use decoder_rules::types::Check;
 use decoder_rules::types::DecodeError;
 use decoder_rules::types::Note;
-use spec_util::walk::walk_along;
+use spec_util::place::place_along;
 use table::check::only_ids;
 use table::lookup::is_typed;
 use table::types::Path;
@@ -76,9 +78,35 @@ fn step8(
     let kind = h.kind;
     let path = h.path;
     if is_walked(kind, view.settled, view.settings.allow_hierarchy) {
-        return walk_along(entries, parts, path, h.id, ids, knowns, view.count);
+        let strict = view.settings.strict;
+        return place_along(strict, entries, parts, path, h.id, ids, knowns, view.count);
     }
     true
+}
+
+// Whether n bytes from the position on end inside every open master of known size, or need not: the least end stands for
+// all.
+fn fits_inside(view: HeaderView, n: u64) -> bool
+    requires { ⌜ view .position + n ≤ unbounded ⌝ }
+    ensures { λ r. ⌜ ForSettled view (λ d. r ≡ fitsInside d n) ⌝ }
+{
+    if view.settings.allow_oversized {
+        return true;
+    }
+    view.position + n <= view.least_end
+}
+
+// 81, of a header of `len` bytes with an Unknown size.
+fn unknown_checked(view: HeaderView, len: usize) -> Check
+    requires { ⌜ (view .position ≤ farthest) × (len ≤ longestHeader) ⌝ }
+    ensures { λ r. ⌜ ForSettled view (λ d. r ≡ step9 d len Unknown) ⌝ }
+{
+    if view.settings.strict {
+        if !fits_inside(view, len as u64) {
+            return Check::Fail(DecodeError::UnknownSizePastEnd);
+        }
+    }
+    Check::Pass
 }
 
 // 17, of a size that fits.
@@ -93,7 +121,18 @@ fn size_checked(given: bool, greatest: u64, n: u64) -> Check
     Check::Pass
 }
 
-// 8, then 9, for which the least end stands for all.
+// 18, then 17, of a header of `len` bytes with a known size.
+fn known_checked(view: HeaderView, len: usize, n: u64) -> Check
+    requires { ⌜ (view .position ≤ farthest) × (len ≤ longestHeader) × (n < sizeLimit) ⌝ }
+    ensures { λ r. ⌜ ForSettled view (λ d. r ≡ step9 d len (Known n)) ⌝ }
+{
+    if !fits_inside(view, len as u64 + n) {
+        return Check::Fail(DecodeError::OversizedChildElement);
+    }
+    size_checked(view.settings.max_given, view.settings.max_size, n)
+}
+
+// 8, then 9.
 pub fn valid_header(
     entries: &[u64],
     parts: &[u64],
@@ -111,13 +150,8 @@ pub fn valid_header(
     if !step8(entries, parts, view, ids, knowns, h) {
         return Check::Fail(DecodeError::HierarchyError);
     }
-    let EBMLSize::Known(n) = size else {
-        return Check::Pass;
-    };
-    if !view.settings.allow_oversized {
-        if view.least_end < view.position + (h.len as u64 + n) {
-            return Check::Fail(DecodeError::OversizedChildElement);
-        }
+    match size {
+        EBMLSize::Unknown => unknown_checked(view, h.len),
+        EBMLSize::Known(n) => known_checked(view, h.len, n),
     }
-    size_checked(view.settings.max_given, view.settings.max_size, n)
 }

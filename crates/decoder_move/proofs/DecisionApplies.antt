@@ -20,7 +20,7 @@ use Rattle.tag_parse.specs.declared.types.EBMLSize.{EBMLSize}
 use Rattle.tag_parse.specs.declared.types.TagHeader.{TagHeader}
 use Rattle.tag_parse.specs.declared.types.TagValue.{TagValue}
 use Rattle.decoder_rules.specs.Record.{farthest, opens, implied, withOpen, withNotes, settledTo}
-use Rattle.decoder_rules.specs.OneCall.{goodOpen, step3, settles, step7, noted, step10}
+use Rattle.decoder_rules.specs.OneCall.{refusal6, goodOpen, step3, settles, step7, noted, step10}
 use Rattle.decoder_rules.specs.Deciding.{plain, decide}
 use Rattle.decoder_rules.specs.Moving.{move, apply, decode}
 use Rattle.decoder_rules.specs.EndOfInput.{endedOr, decodeEof}
@@ -32,7 +32,7 @@ use Rattle.decoder_rules.specs.declared.types.Answer.the-variants as answer
 use Rattle.decoder_rules.specs.declared.types.Decision.{Decision}
 use Rattle.decoder_rules.specs.declared.types.Decoded.{Decoded}
 use Rattle.decoder_rules.specs.declared.types.DecodeError.{DecodeError}
-use Rattle.decoder_rules.specs.declared.types.DecodeError.the-variants.{InvalidTagId, NotAMaster}
+use Rattle.decoder_rules.specs.declared.types.DecodeError.the-variants.{NotAMaster}
 use Rattle.decoder_rules.specs.declared.types.Note.{Note}
 use Rattle.decoder_rules.specs.declared.types.Note.the-variants.{NoNote, Settle}
 use Rattle.decoder_rules.specs.declared.types.TagDecoder.{TagDecoder}
@@ -107,6 +107,7 @@ module _ (t : List Entry) (d : TagDecoder) (n : ℕ) (good : Near d n) where
     header-fits (exit.misplaced p) = fits-refuse d n _
     header-fits (exit.oversized m p z f) = fits-refuse d n _
     header-fits (exit.too-large m p z f g) = fits-refuse d n _
+    header-fits (exit.past-end p z f g) = fits-refuse d n _
     header-fits (exit.ends-tops v k c) = closing-within (step10 t d (h .id)) k c
     header-fits (exit.too-many at k f) = fits-refuse d n _
     header-fits (exit.starts at k f) = fits-start d n (h .id) (h .size) (h .len) f l good
@@ -180,7 +181,7 @@ module _ (es ps : List ℕ) (d : TagDecoder) (s : List ℕ) (byte : Octets s) wh
   exit-fits (exit.header-incomplete at e) =
       plain-fits ps d (length s) _ (fits-more d (length s) _ (near-by (at .none-full .reading .admitted)))
   exit-fits (exit.header-refused x at e) = refuse-fits (parseError x)
-  exit-fits (exit.unknown-id h at f) = refuse-fits InvalidTagId
+  exit-fits (exit.id-refused h at f) = refuse-fits (refusal6 d h)
   exit-fits (exit.on-header h at f x) =
       let note = step7-fits h at in
       let good = noted-near ps d (length s) (step7 (tableOf es ps) d h) (near-by (at .at-bytes .none-full .reading .admitted)) note in

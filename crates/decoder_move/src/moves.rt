@@ -60,6 +60,7 @@ pub fn fresh() -> TagDecoder
         allow_ids: false,
         allow_hierarchy: false,
         allow_oversized: false,
+        strict: false,
         max_given: true,
         max_size: FIRST_GREATEST_SIZE,
     };

@@ -18,7 +18,7 @@ use Rattle.decoder_rules.specs.Deciding.{actionNeedsMore, decide}
 use Rattle.decoder_rules.specs.declared.types.Action.{Action}
 use Rattle.decoder_rules.specs.declared.types.Decision.{Decision}
 use Rattle.decoder_rules.specs.declared.types.TagDecoder.{TagDecoder}
-use Rattle.decoder_rules.proofs.Exits.{HeaderExit, misplaced, oversized, too-large, ends-tops, too-many, starts, no-size, payload-incomplete, payload-refused, holds, payloadOf, Admitted, Reading, NoneFull, AtBytes, AtHeader, Exit, refused-first, after-finish, hands-out, finished, closes-full, no-byte, header-incomplete, header-refused, unknown-id, on-header, exits, exit-decides}
+use Rattle.decoder_rules.proofs.Exits.{HeaderExit, misplaced, oversized, too-large, past-end, ends-tops, too-many, starts, no-size, payload-incomplete, payload-refused, holds, payloadOf, Admitted, Reading, NoneFull, AtBytes, AtHeader, Exit, refused-first, after-finish, hands-out, finished, closes-full, no-byte, header-incomplete, header-refused, id-refused, on-header, exits, exit-decides}
 
 module _ (t : List Entry) (d : TagDecoder) (h : TagHeader) (s u : List ℕ) where
   -- a payload that is there is read alike
@@ -36,6 +36,7 @@ module _ (t : List Entry) (d : TagDecoder) (h : TagHeader) (s u : List ℕ) wher
   header-longer (misplaced p) m = misplaced p
   header-longer (oversized n p e f) m = oversized n p e f
   header-longer (too-large n p e f g) m = too-large n p e f g
+  header-longer (past-end p e f g) m = past-end p e f g
   header-longer (ends-tops v l c) m = ends-tops v l c
   header-longer (too-many at k l) m = too-many at k l
   header-longer (starts at k l) m = starts at k l
@@ -92,7 +93,7 @@ module _ (es ps : List ℕ) (d : TagDecoder) (s u : List ℕ) (byte : getD s 0 0
   exit-longer (no-byte n z) m = absurd (true≢false m)
   exit-longer (header-incomplete at e) m = absurd (true≢false m)
   exit-longer (header-refused x at e) m = header-refused x (bytes-longer at) (read-longer e refl)
-  exit-longer (unknown-id h at f) m = unknown-id h (at-header-longer at) f
+  exit-longer (id-refused h at f) m = id-refused h (at-header-longer at) f
   exit-longer (on-header h at f x) m = on-header h (at-header-longer at) f (header-longer (tableOf es ps) (noted ps d (step7 (tableOf es ps) d h)) h s u x m)
 
   -- so the decision on the first bytes is that on all

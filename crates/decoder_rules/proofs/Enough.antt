@@ -34,14 +34,14 @@ use Rattle.tag_parse.proofs.Completing.{begun-or-0, begun-header, size-least, s
 use Rattle.tag_parse.proofs.Headers.{made, header-sound}
 use Rattle.spec_util.specs.declared.types.OpenTag.{OpenTag}
 use Rattle.decoder_rules.specs.Record.{farthest, opens, endOf}
-use Rattle.decoder_rules.specs.OneCall.{step6, step7, step8, reaches, step9, noted}
+use Rattle.decoder_rules.specs.OneCall.{step6, step7, step8, reaches, fitsInside, step9, noted}
 use Rattle.decoder_rules.specs.Deciding.{actionNeedsMore, actionMissing, decide}
 use Rattle.decoder_rules.specs.Missing.{Stuck}
 use Rattle.decoder_rules.specs.declared.types.Action.{Action}
 use Rattle.decoder_rules.specs.declared.types.Check.the-variants.{Pass}
 use Rattle.decoder_rules.specs.declared.types.Decision.{Decision}
 use Rattle.decoder_rules.specs.declared.types.TagDecoder.{TagDecoder}
-use Rattle.decoder_rules.proofs.Exits.{no-master, HeaderExit, misplaced, oversized, too-large, ends-tops, too-many, starts, no-size, payload-incomplete, payload-refused, holds, AtElement, HasPayload, NoneFull, AtBytes, AtHeader, Exit, refused-first, after-finish, hands-out, finished, closes-full, no-byte, header-incomplete, header-refused, unknown-id, on-header, exits, exit-decides}
+use Rattle.decoder_rules.proofs.Exits.{no-master, HeaderExit, misplaced, oversized, too-large, past-end, ends-tops, too-many, starts, no-size, payload-incomplete, payload-refused, holds, AtElement, HasPayload, NoneFull, AtBytes, AtHeader, Exit, refused-first, after-finish, hands-out, finished, closes-full, no-byte, header-incomplete, header-refused, id-refused, on-header, exits, exit-decides}
 use Rattle.decoder_rules.proofs.AppendedDecision.{none-full-longer, at-header-longer}
 use Rattle.decoder_rules.proofs.Missing.{closing-never, decision-asks, none-missing}
 
@@ -62,6 +62,7 @@ module _ (es ps : List ℕ) (d : TagDecoder) (s : List ℕ) where
   behind-header at f (misplaced p) q = absurd (true≢false (sym q))
   behind-header at f (oversized n p e g) q = absurd (true≢false (sym q))
   behind-header at f (too-large n p e g i) q = absurd (true≢false (sym q))
+  behind-header at f (past-end p e g i) q = absurd (true≢false (sym q))
   behind-header at f (ends-tops v l c) q = absurd (closing-never c q)
   behind-header at f (too-many a k l) q = absurd (true≢false (sym q))
   behind-header at f (starts a k l) q = absurd (true≢false (sym q))
@@ -83,7 +84,7 @@ module _ (es ps : List ℕ) (d : TagDecoder) (s : List ℕ) where
       go (no-byte n z) q = absurd (true≢false (sym (ap headerNeedsMore (header-none (tableOf es ps) s (id-none s z))) ∙ r))
       go (header-incomplete at e) q = absurd (true≢false (sym (ap headerNeedsMore e) ∙ r))
       go (header-refused x at e) q = absurd (true≢false (sym q))
-      go (unknown-id h at f) q = absurd (true≢false (sym q))
+      go (id-refused h at f) q = absurd (true≢false (sym q))
       go (on-header h at f x) q = behind-header at f x q
 
   -- and the other way round
@@ -127,7 +128,7 @@ payload-enough es ps d s u byte open-still near w count q =
 
 -- what passes 9 with a size passes it with a smaller one
 smaller-passes : (d : TagDecoder) (len a b : ℕ) → a ≤ b → step9 d len (Known b) ≡ Pass → step9 d len (Known a) ≡ Pass
-unfolding step9 reaches
+unfolding step9 reaches fitsInside
 smaller-passes d len a b h e = go (d .settings .«allow_oversized» || every (reaches (d .position + (len + b))) (opens d)) refl
   where
     inner : (m : OpenTag) → reaches (d .position + (len + b)) m ≡ true → reaches (d .position + (len + a)) m ≡ true
@@ -316,7 +317,7 @@ module _ (es ps : List ℕ) (d : TagDecoder) (s : List ℕ) (byte : Octets s) wh
       go (no-byte n z) q = n
       go (header-incomplete at e) q = at .none-full
       go (header-refused x at e) q = absurd (true≢false (sym q))
-      go (unknown-id h at f) q = absurd (true≢false (sym q))
+      go (id-refused h at f) q = absurd (true≢false (sym q))
       go (on-header h at f x) q = at .at-bytes .none-full
 
   -- where the header asks for more, the call waits for that

@@ -3,7 +3,7 @@
 -- orders, the others as equations. Assumes nothing.
 use Prim.Native.Nat.{ℕ, _-_, _+_, _≤_, _<_}
 use mathlib.Core.Path.{_≡_, refl, sym, ap, _∙_}
-use mathlib.Core.Bool.{Bool, true, false, cond, _&&_, _||_, false≢true}
+use mathlib.Core.Bool.{Bool, true, false, cond, not, _&&_, _||_, false≢true}
 use mathlib.Core.List.{List}
 use native.Mathlib.Omega.{arith}
 use borrow.Author.Tests.{ltb-true, ltb-false, leb-true, leb-false, eqb-true, eqb-false, lt-ltb, le-ltb, le-leb, lt-leb, eq-eqb, ne-eqb}
@@ -26,7 +26,7 @@ use Rattle.tag_parse.specs.declared.types.ReadHeader.the-variants as header
 use Rattle.tag_parse.specs.declared.types.TagHeader.{TagHeader}
 use Rattle.tag_parse.specs.declared.types.TagValue.{TagValue}
 use Rattle.decoder_rules.specs.Record.{opens}
-use Rattle.decoder_rules.specs.OneCall.{checkRecord10to12, check13, andThen, step1, step3, closeOrFault, step6, settles, step7, noted, step8, reaches, step9, validHeader, step10, dataOr, readElement, elementOf, step11}
+use Rattle.decoder_rules.specs.OneCall.{checkRecord10to12, check13, andThen, step1, step3, closeOrFault, step6, refusal6, settles, step7, noted, step8, fitsInside, step9, validHeader, step10, dataOr, readElement, elementOf, step11}
 use Rattle.decoder_rules.specs.Deciding.{leastHeader, plain, steps10-11, unless, steps8-11, steps6-11, step5, steps4-11, steps2-11, orRefuse, decide}
 use Rattle.decoder_rules.specs.Numbers.{parseError}
 use Rattle.decoder_rules.specs.declared.types.Action.{Action}
@@ -54,17 +54,14 @@ pub data Closing (t : List Entry) (d : TagDecoder) (k : ℕ) : Action → Type 0
 
 -- ---- 8 to 11; d has the note
 
--- an element of n bytes after the header ends inside every open master of known size, or need not
-abbrev pub fitsInside : TagDecoder → TagHeader → ℕ → Bool
-fitsInside d h n = d .settings .«allow_oversized» || every (reaches (d .position + (h .len + n))) (opens d)
-
 -- n is over the greatest size
 abbrev pub isTooLarge : TagDecoder → ℕ → Bool
 isTooLarge d n = d .settings .«max_given» && ltb (d .settings .«max_size») n
 
 -- what is read of a payload of n bytes
 abbrev pub payloadOf : TagDecoder → TagHeader → ℕ → List ℕ → ReadValue
-payloadOf d h n s = valueOf (h .kind) (take n (drop (h .len) s)) (record { begin = d .position + h .len; end = d .position + (h .len + n) })
+payloadOf d h n s =
+    valueOf (d .settings .strict) (h .kind) (take n (drop (h .len) s)) (record { begin = d .position + h .len; end = d .position + (h .len + n) })
 
 -- 8 and 9 are passed
 pub record Valid (t : List Entry) (d : TagDecoder) (h : TagHeader) : Type 0 where
@@ -85,9 +82,11 @@ pub record HasPayload (t : List Entry) (d : TagDecoder) (h : TagHeader) (n : ℕ
 -- every way in which 8 to 11 end
 pub data HeaderExit (t : List Entry) (d : TagDecoder) (h : TagHeader) (s : List ℕ) : Action → Type 0 where
   misplaced : step8 t d h ≡ false → HeaderExit t d h s (act.Refuse error.HierarchyError)
-  oversized : (n : ℕ) → step8 t d h ≡ true → h .size ≡ Known n → fitsInside d h n ≡ false → HeaderExit t d h s (act.Refuse error.OversizedChildElement)
-  too-large : (n : ℕ) → step8 t d h ≡ true → h .size ≡ Known n → fitsInside d h n ≡ true → isTooLarge d n ≡ true
+  oversized : (n : ℕ) → step8 t d h ≡ true → h .size ≡ Known n → fitsInside d (h .len + n) ≡ false → HeaderExit t d h s (act.Refuse error.OversizedChildElement)
+  too-large : (n : ℕ) → step8 t d h ≡ true → h .size ≡ Known n → fitsInside d (h .len + n) ≡ true → isTooLarge d n ≡ true
       → HeaderExit t d h s (act.Refuse error.InvalidTagSize)
+  past-end : step8 t d h ≡ true → h .size ≡ Unknown → d .settings .strict ≡ true → fitsInside d (h .len) ≡ false
+      → HeaderExit t d h s (act.Refuse error.UnknownSizePastEnd)
   ends-tops : {a : Action} → Valid t d h → step10 t d (h .id) < d .«open_count» → Closing t d (step10 t d (h .id)) a → HeaderExit t d h s a
   too-many : AtElement t d h → isMaster (h .kind) ≡ true → mostOpen ≤ d .«open_count» → HeaderExit t d h s (act.Refuse error.TooManyOpen)
   starts : AtElement t d h → isMaster (h .kind) ≡ true → d .«open_count» < mostOpen → HeaderExit t d h s (act.Start (h .id) (h .size) (h .len))
@@ -136,7 +135,7 @@ pub data Exit (es ps : List ℕ) (d : TagDecoder) (s : List ℕ) : Decision → 
   no-byte : NoneFull es ps d s → length s ≡ 0 → Exit es ps d s (plain (act.NeedMore leastHeader))
   header-incomplete : {m : ℕ} → AtBytes es ps d s → readHeader (tableOf es ps) s ≡ header.NeedMore m → Exit es ps d s (plain (act.NeedMore m))
   header-refused : (x : ParseError) → AtBytes es ps d s → readHeader (tableOf es ps) s ≡ header.Refused x → Exit es ps d s (plain (act.Refuse (parseError x)))
-  unknown-id : (h : TagHeader) → AtHeader es ps d s h → step6 d h ≡ false → Exit es ps d s (plain (act.Refuse error.InvalidTagId))
+  id-refused : (h : TagHeader) → AtHeader es ps d s h → step6 d h ≡ false → Exit es ps d s (plain (act.Refuse (refusal6 d h)))
   on-header : {a : Action} (h : TagHeader) → AtHeader es ps d s h → step6 d h ≡ true → HeaderExit (tableOf es ps) (noted ps d (step7 (tableOf es ps) d h)) h s a
       → Exit es ps d s (record { note = step7 (tableOf es ps) d h; action = a })
 
@@ -155,7 +154,7 @@ module _ (t : List Entry) (d : TagDecoder) (h : TagHeader) (s : List ℕ) where
   data-exits n at l (payload.Value v) e = holds n v at l e
   data-exits n at l (payload.Refused x) e = payload-refused n x at l e
 
-  element-exits : AtElement t d h → isMaster (h .kind) ≡ false → (z : EBMLSize) → h .size ≡ z → By (elementOf (d .position) h z s)
+  element-exits : AtElement t d h → isMaster (h .kind) ≡ false → (z : EBMLSize) → h .size ≡ z → By (elementOf (d .settings .strict) (d .position) h z s)
   unfolding elementOf readElement
   element-exits at k Unknown e = no-size at k e
   element-exits at k (Known n) e =
@@ -164,11 +163,11 @@ module _ (t : List Entry) (d : TagDecoder) (h : TagHeader) (s : List ℕ) where
       (λ f. payload-incomplete n has (ltb-true _ _ f))
       (λ f. data-exits n has (ltb-false _ _ f) (payloadOf d h n s) refl)
 
-  step11-exits : AtElement t d h → By (step11 (d .«open_count») (d .position) h s)
+  step11-exits : AtElement t d h → By (step11 (d .settings .strict) (d .«open_count») (d .position) h s)
   unfolding step11
   step11-exits at =
       pick By (isMaster (h .kind)) (cond (leb mostOpen (d .«open_count»)) (act.Refuse error.TooManyOpen) (act.Start (h .id) (h .size) (h .len)))
-      (elementOf (d .position) h (h .size) s)
+      (elementOf (d .settings .strict) (d .position) h (h .size) s)
       (λ k. pick By (leb mostOpen (d .«open_count»)) (act.Refuse error.TooManyOpen) (act.Start (h .id) (h .size) (h .len))
       (λ f. too-many at k (leb-true _ _ f))
       (λ f. starts at k (leb-false _ _ f)))
@@ -177,7 +176,7 @@ module _ (t : List Entry) (d : TagDecoder) (h : TagHeader) (s : List ℕ) where
   steps10-exits : Valid t d h → By (steps10-11 t d h s)
   unfolding steps10-11
   steps10-exits v =
-      pick By (ltb (step10 t d (h .id)) (d .«open_count»)) (closeOrFault t d (step10 t d (h .id))) (step11 (d .«open_count») (d .position) h s)
+      pick By (ltb (step10 t d (h .id)) (d .«open_count»)) (closeOrFault t d (step10 t d (h .id))) (step11 (d .settings .strict) (d .«open_count») (d .position) h s)
       (λ f. ends-tops v (ltb-true _ _ f) (closing-exits t d (step10 t d (h .id))))
       (λ f. step11-exits (record { valid = v; none-ended = ltb-false _ _ f }))
 
@@ -185,11 +184,21 @@ module _ (t : List Entry) (d : TagDecoder) (h : TagHeader) (s : List ℕ) where
   abbrev After : Check → Type 0
   After c = By (unless c (steps10-11 t d h s))
 
+  -- strict, and the rest does not hold
+  neither : {A : Type 0} (m b : Bool) → (m ≡ true → b ≡ false → A) → (not m || b) ≡ false → A
+  neither true false found e = found refl refl
+  neither true true found e = absurd (false≢true (sym e))
+  neither false b found e = absurd (false≢true (sym e))
+
   step9-exits : step8 t d h ≡ true → (z : EBMLSize) → h .size ≡ z → After (step9 d (h .len) z)
-  step9-exits p Unknown e = unfold step9 in steps10-exits (record { path = p; size = unfold step9 in rw e })
+  step9-exits p Unknown e =
+      unfold step9 in
+      pick After (not (d .settings .strict) || fitsInside d (h .len)) Pass (Fail error.UnknownSizePastEnd)
+      (λ f. steps10-exits (record { path = p; size = unfold step9 in rw (e, f) }))
+      (λ f. neither (d .settings .strict) (fitsInside d (h .len)) (λ m g. past-end p e m g) f)
   step9-exits p (Known n) e =
       unfold step9 in
-      pick After (fitsInside d h n) (cond (isTooLarge d n) (Fail error.InvalidTagSize) Pass) (Fail error.OversizedChildElement)
+      pick After (fitsInside d (h .len + n)) (cond (isTooLarge d n) (Fail error.InvalidTagSize) Pass) (Fail error.OversizedChildElement)
       (λ f. pick After (isTooLarge d n) (Fail error.InvalidTagSize) Pass
       (λ g. too-large n p e f g)
       (λ g. steps10-exits (record { path = p; size = unfold step9 in rw (e, f, g) })))
@@ -209,9 +218,9 @@ module _ (es ps : List ℕ) (d : TagDecoder) (s : List ℕ) where
   unfolding steps6-11
   steps6-exits h at =
       let e = noted ps d (step7 (tableOf es ps) d h) in
-      pick Ends (step6 d h) (record { note = step7 (tableOf es ps) d h; action = steps8-11 (tableOf es ps) e h s }) (plain (act.Refuse error.InvalidTagId))
+      pick Ends (step6 d h) (record { note = step7 (tableOf es ps) d h; action = steps8-11 (tableOf es ps) e h s }) (plain (act.Refuse (refusal6 d h)))
       (λ f. on-header h at f (header-exits (tableOf es ps) e h s))
-      (λ f. unknown-id h at f)
+      (λ f. id-refused h at f)
 
   step5-exits : AtBytes es ps d s → (r : ReadHeader) → readHeader (tableOf es ps) s ≡ r → Ends (step5 ps (tableOf es ps) d s r)
   unfolding step5
@@ -286,9 +295,9 @@ valid-by t d h e = go (step8 t d h) refl e
     go false p q = let z : _≡_ {A = ℕ} 0 1 = cc in absurd-eq z
 
 -- an element of known size that passed 9 ends inside every open master of known size, or need not
-pub valid-fits : (t : List Entry) (d : TagDecoder) (h : TagHeader) (n : ℕ) → Valid t d h → h .size ≡ Known n → fitsInside d h n ≡ true
+pub valid-fits : (t : List Entry) (d : TagDecoder) (h : TagHeader) (n : ℕ) → Valid t d h → h .size ≡ Known n → fitsInside d (h .len + n) ≡ true
 unfolding step9
-valid-fits t d h n v e = by (fitsInside d h n) (rw e at (v .size))
+valid-fits t d h n v e = by (fitsInside d (h .len + n)) (rw e at (v .size))
   where
     by : (b : Bool) → cond b (cond (isTooLarge d n) (Fail error.InvalidTagSize) Pass) (Fail error.OversizedChildElement) ≡ Pass → b ≡ true
     by true q = refl
@@ -298,6 +307,10 @@ module _ (t : List Entry) (d : TagDecoder) (h : TagHeader) (s : List ℕ) where
   -- 9 on a size that is Known
   step9-known : {n : ℕ} {c : Check} → h .size ≡ Known n → step9 d (h .len) (Known n) ≡ c → step9 d (h .len) (h .size) ≡ c
   step9-known e q = rw e q
+
+  -- and on one that is Unknown
+  step9-unknown : {c : Check} → h .size ≡ Unknown → step9 d (h .len) Unknown ≡ c → step9 d (h .len) (h .size) ≡ c
+  step9-unknown e q = rw e q
 
   -- a header that 8 or 9 refuses
   pub invalid-decides : {x : DecodeError} → validHeader t d h ≡ Fail x → act.Refuse x ≡ steps8-11 t d h s
@@ -309,10 +322,10 @@ module _ (t : List Entry) (d : TagDecoder) (h : TagHeader) (s : List ℕ) where
   valid-decides v q = rw (valid-header t d h v) q
 
   -- past 10 the decision is that of 11
-  pub element-decides : {a : Action} → AtElement t d h → a ≡ step11 (d .«open_count») (d .position) h s → a ≡ steps8-11 t d h s
+  pub element-decides : {a : Action} → AtElement t d h → a ≡ step11 (d .settings .strict) (d .«open_count») (d .position) h s → a ≡ steps8-11 t d h s
   element-decides at q = valid-decides (at .valid) (unfold steps10-11 in q ∙ sym (cond-no _ _ _ (le-ltb _ _ (at .none-ended))))
 
-  payload-decides : {a : Action} {n : ℕ} → HasPayload t d h n → a ≡ readElement (d .position) h n s → a ≡ steps8-11 t d h s
+  payload-decides : {a : Action} {n : ℕ} → HasPayload t d h n → a ≡ readElement (d .settings .strict) (d .position) h n s → a ≡ steps8-11 t d h s
   payload-decides has q =
       element-decides (has .at) (unfold step11 elementOf in q ∙ rw (has .known) (sym (cond-no _ _ _ (has .no-master))))
 
@@ -323,6 +336,9 @@ module _ (t : List Entry) (d : TagDecoder) (h : TagHeader) (s : List ℕ) where
       invalid-decides (unfold validHeader in cond-yes _ _ _ p ∙ step9-known e (unfold step9 in cond-no _ _ _ f))
   header-decides (too-large n p e f g) =
       invalid-decides (unfold validHeader in cond-yes _ _ _ p ∙ step9-known e (unfold step9 in cond-yes _ _ _ f ∙ cond-yes _ _ _ g))
+  header-decides (past-end p e m f) =
+      invalid-decides
+      (unfold validHeader in cond-yes _ _ _ p ∙ step9-unknown e (unfold step9 in cond-no _ _ _ (ap (λ (b : Bool). not b || fitsInside d (h .len)) m ∙ f)))
   header-decides (ends-tops v l c) =
       valid-decides v (unfold steps10-11 in closing-decides t d (step10 t d (h .id)) c ∙ sym (cond-yes _ _ _ (lt-ltb _ _ l)))
   header-decides (too-many at k l) = element-decides at (unfold step11 in sym (cond-yes _ _ _ k ∙ cond-yes _ _ _ (le-leb _ _ l)))
@@ -333,10 +349,10 @@ module _ (t : List Entry) (d : TagDecoder) (h : TagHeader) (s : List ℕ) where
   header-decides (holds n v has l e) = payload-decides has (unfold readElement in rw e (sym (cond-no _ _ _ (le-ltb _ _ l))))
 
 module _ (ps : List ℕ) (t : List Entry) (d : TagDecoder) (h : TagHeader) (s : List ℕ) where
-  -- 6 to 11 where the ID has no type and is not allowed
-  pub unknown-id-decides : step6 d h ≡ false → plain (act.Refuse error.InvalidTagId) ≡ steps6-11 ps t d h s
+  -- 6 to 11 where 6 refuses the ID
+  pub id-refused-decides : step6 d h ≡ false → plain (act.Refuse (refusal6 d h)) ≡ steps6-11 ps t d h s
   unfolding steps6-11
-  unknown-id-decides f = sym (cond-no _ _ _ f)
+  id-refused-decides f = sym (cond-no _ _ _ f)
 
   -- and where it passes: the note n, and 8 to 11 on the record with it
   pub noted-decides : (n : Note) {a : Action} → step6 d h ≡ true → n ≡ step7 t d h → a ≡ steps8-11 t (noted ps d n) h s
@@ -407,7 +423,7 @@ module _ (es ps : List ℕ) (d : TagDecoder) (s : List ℕ) where
   exit-decides (no-byte n z) = past3-decides n (unfold steps4-11 in sym (cond-yes _ _ _ (eq-eqb _ _ z)))
   exit-decides (header-incomplete at e) = bytes-decide at e (unfold step5 in refl)
   exit-decides (header-refused x at e) = bytes-decide at e (unfold step5 in refl)
-  exit-decides (unknown-id h at f) = read-decides at (unknown-id-decides ps (tableOf es ps) d h s f)
+  exit-decides (id-refused h at f) = read-decides at (id-refused-decides ps (tableOf es ps) d h s f)
   exit-decides (on-header h at f x) =
       let t = tableOf es ps in
       let n = step7 t d h in
@@ -441,6 +457,7 @@ header-no-finish : {t : List Entry} {d : TagDecoder} {h : TagHeader} {s : List �
 header-no-finish (misplaced p) = refl
 header-no-finish (oversized n p e f) = refl
 header-no-finish (too-large n p e f g) = refl
+header-no-finish (past-end p e m f) = refl
 header-no-finish (ends-tops v l c) = closing-no-finish c
 header-no-finish (too-many at k l) = refl
 header-no-finish (starts at k l) = refl
@@ -464,7 +481,7 @@ module _ (es ps : List ℕ) (d : TagDecoder) (s : List ℕ) where
   settling-exit (no-byte n y) q = let z : _≡_ {A = ℕ} 0 1 = cc in absurd-eq z
   settling-exit (header-incomplete at e) q = let z : _≡_ {A = ℕ} 0 1 = cc in absurd-eq z
   settling-exit (header-refused x at e) q = let z : _≡_ {A = ℕ} 0 1 = cc in absurd-eq z
-  settling-exit (unknown-id h at f) q = let z : _≡_ {A = ℕ} 0 1 = cc in absurd-eq z
+  settling-exit (id-refused h at f) q = let z : _≡_ {A = ℕ} 0 1 = cc in absurd-eq z
   settling-exit (on-header h at f x) q =
       let b = by-settles h (settles (tableOf es ps) d h) refl q in
       record { h = h; at = at; typed = f; settling = b .0; path = b .1 }
@@ -479,5 +496,5 @@ module _ (es ps : List ℕ) (d : TagDecoder) (s : List ℕ) where
   finish-exit (no-byte n z) q = absurd (false≢true q)
   finish-exit (header-incomplete at e) q = absurd (false≢true q)
   finish-exit (header-refused x at e) q = absurd (false≢true q)
-  finish-exit (unknown-id h at f) q = absurd (false≢true q)
+  finish-exit (id-refused h at f) q = absurd (false≢true q)
   finish-exit (on-header h at f x) q = absurd (false≢true (sym (header-no-finish x) ∙ q))

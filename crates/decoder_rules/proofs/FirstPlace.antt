@@ -16,7 +16,7 @@ use Rattle.tag_parse.specs.declared.types.ReadHeader.{ReadHeader}
 use Rattle.tag_parse.specs.declared.types.ReadHeader.the-variants as header
 use Rattle.tag_parse.specs.declared.types.TagHeader.{TagHeader}
 use Rattle.decoder_rules.specs.Record.{atPosition, withOpen, withNotes, settledTo}
-use Rattle.decoder_rules.specs.OneCall.{checkRecord10to12, step7, noted}
+use Rattle.decoder_rules.specs.OneCall.{checkRecord10to12, step6, step7, noted}
 use Rattle.decoder_rules.specs.Recovery.{forward, at, placeAt, unlessOn, endOfSearch, endingAt, ending, tryRecover, passedIn, isFound}
 use Rattle.decoder_rules.specs.FirstPlace.{settleHeader, settleAt, orElse, settleBefore, noteBefore, recordOn, recordAt, Standing, Incomplete, Valid, Other, standing, standsAt, isHeader, isValid, firstPlace, recoveredAt, recoveredFirst}
 use Rattle.decoder_rules.specs.declared.types.Check.{Check}
@@ -28,7 +28,7 @@ use Rattle.decoder_rules.specs.declared.types.PlaceResult.{PlaceResult}
 use Rattle.decoder_rules.specs.declared.types.Search.{Search}
 use Rattle.decoder_rules.specs.declared.types.TagDecoder.{TagDecoder}
 use Rattle.decoder_rules.proofs.MoveLaws.{noted-position}
-use Rattle.decoder_rules.proofs.Places.{placeNote, unsettled-step7, settled-place, place-seen, goneOn, placeOf, place-leaves}
+use Rattle.decoder_rules.proofs.Places.{placeNote, unsettled-note, settled-place, place-seen, goneOn, placeOf, place-leaves}
 
 -- ---- notes in turn
 
@@ -40,22 +40,28 @@ module _ (ps : List ℕ) where
   noted-forward d (Settle path) p q e = ap (atPosition (noted ps d (Settle path))) e
 
   -- on a record that has not settled two notes in turn are the first of them that is one
-  notes-in-turn : (d : TagDecoder) (x y : Note) (i : ℕ) → d .settled ≡ false
-      → atPosition (noted ps d (orElse x y)) (d .position + suc i)
-      ≡ atPosition (noted ps (forward (noted ps d x)) (cond (forward (noted ps d x) .settled) NoNote y)) (forward (noted ps d x) .position + i)
+  notes-in-turn : (d : TagDecoder) (x : Note) (y : Bool → Note) (i : ℕ) → d .settled ≡ false
+      → atPosition (noted ps d (orElse x (y (d .settings .strict)))) (d .position + suc i)
+      ≡ atPosition
+      (noted ps (forward (noted ps d x)) (cond (forward (noted ps d x) .settled) NoNote (y (forward (noted ps d x) .settings .strict))))
+      (forward (noted ps d x) .position + i)
   unfolding noted settledTo withOpen withNotes
-  notes-in-turn d NoNote y i u = noted-forward d y _ _ (omega arith) ∙ ap (λ (b : Bool). atPosition (noted ps (forward d) (cond b NoNote y)) (d .position + 1 + i)) (sym u)
+  notes-in-turn d NoNote y i u =
+      noted-forward d (y (d .settings .strict)) _ _ (omega arith)
+      ∙ ap (λ (b : Bool). atPosition (noted ps (forward d) (cond b NoNote (y (d .settings .strict)))) (d .position + 1 + i)) (sym u)
   notes-in-turn d (Settle path) y i u = ap (atPosition (noted ps d (Settle path))) (omega arith)
 
   -- a settled record takes no note
-  settled-forward : (d : TagDecoder) (x y : Note) (i : ℕ) → d .settled ≡ true
+  settled-forward : (d : TagDecoder) (x : Note) (y : Bool → Note) (i : ℕ) → d .settled ≡ true
       → atPosition (noted ps d (cond (d .settled) NoNote x)) (d .position + suc i)
-      ≡ atPosition (noted ps (forward (noted ps d NoNote)) (cond (forward (noted ps d NoNote) .settled) NoNote y)) (forward (noted ps d NoNote) .position + i)
+      ≡ atPosition
+      (noted ps (forward (noted ps d NoNote)) (cond (forward (noted ps d NoNote) .settled) NoNote (y (forward (noted ps d NoNote) .settings .strict))))
+      (forward (noted ps d NoNote) .position + i)
   unfolding noted withNotes
   settled-forward d x y i u =
       ap (λ (n : Note). atPosition (noted ps d n) (d .position + suc i)) (cond-yes _ _ _ u)
       ∙ noted-forward d NoNote _ (d .position + 1 + i) (omega arith)
-      ∙ ap (λ (n : Note). atPosition (noted ps (forward d) n) (d .position + 1 + i)) (sym (cond-yes (d .settled) NoNote y u))
+      ∙ ap (λ (n : Note). atPosition (noted ps (forward d) n) (d .position + 1 + i)) (sym (cond-yes (d .settled) NoNote (y (d .settings .strict)) u))
 
   -- the note alone keeps the record's place
   noted-here : (d : TagDecoder) (n : Note) → atPosition (noted ps d n) (d .position + 0) ≡ noted ps d n
@@ -73,24 +79,29 @@ or-else-holds P NoNote y p q = q
 or-else-holds P (Settle path) y p q = p
 
 module _ (t : List Entry) (d : TagDecoder) (P : Note → Type 0) (none : P NoNote) (some : (s : List ℕ) (h : TagHeader) → readHeader t s ≡ header.Header h → P (step7 t d h)) where
-  settle-holds : d .settled ≡ false → (s : List ℕ) → P (settleAt t s)
+  -- the mode of the record
+  abbrev strict : Bool
+  strict = d .settings .strict
+
+  settle-holds : d .settled ≡ false → (s : List ℕ) → P (settleAt strict t s)
   unfolding settleAt
   settle-holds u s = go (readHeader t s) refl
     where
-      go : (r : ReadHeader) → readHeader t s ≡ r → P (settleHeader t r)
+      go : (r : ReadHeader) → readHeader t s ≡ r → P (settleHeader strict t r)
       go (header.NeedMore missing) e = none
       go (header.Refused x) e = none
-      go (header.Header h) e = subst P (unsettled-step7 t d h u) (some s h e)
+      go (header.Header h) e = subst P (unsettled-note t d h u) (pick P (step6 d h) (step7 t d h) NoNote (λ f. some s h e) (λ f. none))
 
-  before-holds : d .settled ≡ false → (n : ℕ) (s : List ℕ) → P (settleBefore t n s)
+  before-holds : d .settled ≡ false → (n : ℕ) (s : List ℕ) → P (settleBefore strict t n s)
   unfolding settleBefore
   before-holds u zero s = none
-  before-holds u (suc n) s = or-else-holds P (settleAt t s) (settleBefore t n (drop 1 s)) (settle-holds u s) (before-holds u n (drop 1 s))
+  before-holds u (suc n) s =
+      or-else-holds P (settleAt strict t s) (settleBefore strict t n (drop 1 s)) (settle-holds u s) (before-holds u n (drop 1 s))
 
   -- what holds of no note, and of step 7's for each header that is read, holds of the note that places leave
   pub note-holds : (s : List ℕ) (n : ℕ) → P (noteBefore t d s n)
   unfolding noteBefore
-  note-holds s n = pick P (d .settled) NoNote (settleBefore t n s) (λ e. none) (λ e. before-holds e n s)
+  note-holds s n = pick P (d .settled) NoNote (settleBefore strict t n s) (λ e. none) (λ e. before-holds e n s)
 
 -- on a settled record no places leave a note
 pub settled-before : (t : List Entry) (d : TagDecoder) (s : List ℕ) (n : ℕ) → d .settled ≡ true → noteBefore t d s n ≡ NoNote
@@ -98,7 +109,7 @@ unfolding noteBefore
 settled-before t d s n u = cond-yes _ _ _ u
 
 -- on another they leave the first that settles
-pub unsettled-before : (t : List Entry) (d : TagDecoder) (s : List ℕ) (n : ℕ) → d .settled ≡ false → noteBefore t d s n ≡ settleBefore t n s
+pub unsettled-before : (t : List Entry) (d : TagDecoder) (s : List ℕ) (n : ℕ) → d .settled ≡ false → noteBefore t d s n ≡ settleBefore (d .settings .strict) t n s
 unfolding noteBefore
 unsettled-before t d s n u = cond-no _ _ _ u
 
@@ -117,9 +128,9 @@ module _ (ps : List ℕ) (t : List Entry) where
   unfolding noteBefore settleBefore
   first-note d s = go (d .settled) refl
     where
-      go : (b : Bool) → d .settled ≡ b → cond b NoNote (orElse (settleAt t s) NoNote) ≡ placeNote t d s
+      go : (b : Bool) → d .settled ≡ b → cond b NoNote (orElse (settleAt (d .settings .strict) t s) NoNote) ≡ placeNote t d s
       go true u = sym (settled-place t d s u)
-      go false u = or-else-none (settleAt t s) ∙ sym (place-seen t d s u)
+      go false u = or-else-none (settleAt (d .settings .strict) t s) ∙ sym (place-seen t d s u)
 
   first-left : (d : TagDecoder) (s : List ℕ) → recordOn ps t d s 1 0 ≡ noted ps d (placeNote t d s)
   unfolding recordOn
@@ -131,19 +142,24 @@ module _ (ps : List ℕ) (t : List Entry) where
   unfolding recordOn noteBefore settleBefore
   record-next d b s n i = go (d .settled) refl
     where
-      y : Note
-      y = settleBefore t n s
+      y : Bool → Note
+      y strict = settleBefore strict t n s
+
+      here : Note
+      here = settleAt (d .settings .strict) t (b ∷ s)
 
       From : Note → Type 0
       From x =
-          atPosition (noted ps d (cond (d .settled) NoNote (orElse (settleAt t (b ∷ s)) y))) (d .position + suc i)
-          ≡ atPosition (noted ps (forward (noted ps d x)) (cond (forward (noted ps d x) .settled) NoNote y)) (forward (noted ps d x) .position + i)
+          atPosition (noted ps d (cond (d .settled) NoNote (orElse here (y (d .settings .strict))))) (d .position + suc i)
+          ≡ atPosition
+          (noted ps (forward (noted ps d x)) (cond (forward (noted ps d x) .settled) NoNote (y (forward (noted ps d x) .settings .strict))))
+          (forward (noted ps d x) .position + i)
 
       go : (q : Bool) → d .settled ≡ q → From (placeNote t d (b ∷ s))
-      go true u = subst From (sym (settled-place t d (b ∷ s) u)) (settled-forward ps d (orElse (settleAt t (b ∷ s)) y) y i u)
+      go true u = subst From (sym (settled-place t d (b ∷ s) u)) (settled-forward ps d (orElse here (y (d .settings .strict))) y i u)
       go false u =
           subst From (sym (place-seen t d (b ∷ s) u))
-          (ap (λ (m : Note). atPosition (noted ps d m) (d .position + suc i)) (cond-no _ _ _ u) ∙ notes-in-turn ps d (settleAt t (b ∷ s)) y i u)
+          (ap (λ (m : Note). atPosition (noted ps d m) (d .position + suc i)) (cond-no _ _ _ u) ∙ notes-in-turn ps d here y i u)
 
   -- so the same stands there
   stands-next : (d : TagDecoder) (b : ℕ) (s : List ℕ) (i : ℕ)

@@ -17,4 +17,7 @@ pub mod MissingExamples
 pub mod Computing
 pub mod RecoveryExamples
 pub mod RefusalNumbers
+pub mod ModeKept
+pub mod StrictAlike
+pub mod StrictExamples
 pub mod Unique

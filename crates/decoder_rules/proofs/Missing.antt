@@ -22,7 +22,7 @@ use Rattle.decoder_rules.specs.Deciding.{leastHeader, actionNeedsMore, a
 use Rattle.decoder_rules.specs.declared.types.Action.{Action}
 use Rattle.decoder_rules.specs.declared.types.Decision.{Decision}
 use Rattle.decoder_rules.specs.declared.types.TagDecoder.{TagDecoder}
-use Rattle.decoder_rules.proofs.Exits.{Closing, closes, no-master, HeaderExit, misplaced, oversized, too-large, ends-tops, too-many, starts, no-size, payload-incomplete, payload-refused, holds, NoneFull, AtHeader, Exit, refused-first, after-finish, hands-out, finished, closes-full, no-byte, header-incomplete, header-refused, unknown-id, on-header, exits, exit-decides}
+use Rattle.decoder_rules.proofs.Exits.{Closing, closes, no-master, HeaderExit, misplaced, oversized, too-large, past-end, ends-tops, too-many, starts, no-size, payload-incomplete, payload-refused, holds, NoneFull, AtHeader, Exit, refused-first, after-finish, hands-out, finished, closes-full, no-byte, header-incomplete, header-refused, id-refused, on-header, exits, exit-decides}
 use Rattle.decoder_rules.proofs.AppendedDecision.{none-full-longer, at-header-longer}
 
 -- ---- where something is missing
@@ -35,6 +35,7 @@ header-exit-asks : {t : List Entry} {d : TagDecoder} {h : TagHeader} {s : List �
 header-exit-asks (misplaced p) = refl
 header-exit-asks (oversized n p e f) = refl
 header-exit-asks (too-large n p e f g) = refl
+header-exit-asks (past-end p e f g) = refl
 header-exit-asks (ends-tops v l c) = closing-asks c
 header-exit-asks (too-many at k l) = refl
 header-exit-asks (starts at k l) = refl
@@ -56,7 +57,7 @@ decision-asks es ps d s = go (exits es ps d s)
     go (no-byte n z) = refl
     go (header-incomplete at e) = rw e at (header-asks (tableOf es ps) s)
     go (header-refused x at e) = refl
-    go (unknown-id h at f) = refl
+    go (id-refused h at f) = refl
     go (on-header h at f x) = header-exit-asks x
 
 pub closing-never : {t : List Entry} {d : TagDecoder} {k : ℕ} {a : Action} → Closing t d k a → actionNeedsMore a ≡ true → ⊥
@@ -76,7 +77,7 @@ waits-unfinished es ps d s = go (exits es ps d s)
     go (no-byte n z) q = n .reading .unfinished
     go (header-incomplete at e) q = at .none-full .reading .unfinished
     go (header-refused x at e) q = absurd (true≢false (sym q))
-    go (unknown-id h at f) q = absurd (true≢false (sym q))
+    go (id-refused h at f) q = absurd (true≢false (sym q))
     go (on-header h at f x) q = at .at-bytes .none-full .reading .unfinished
 
 -- ---- fewer further bytes
@@ -116,6 +117,7 @@ module _ (es ps : List ℕ) (d : TagDecoder) (s u : List ℕ) (byte : getD s 0 0
   payload-still at f (misplaced p) = omega arith
   payload-still at f (oversized n p e g) = omega arith
   payload-still at f (too-large n p e g i) = omega arith
+  payload-still at f (past-end p e g i) = omega arith
   payload-still at f (ends-tops v l c) = let z = closing-waits c in omega arith
   payload-still at f (too-many a k l) = omega arith
   payload-still at f (starts a k l) = omega arith
@@ -145,5 +147,5 @@ module _ (es ps : List ℕ) (d : TagDecoder) (s u : List ℕ) (byte : getD s 0 0
       go (no-byte n z) = rw (none-missing (tableOf es ps) s z) at (header-still n)
       go (header-incomplete at e) = rw e at (header-still (at .none-full))
       go (header-refused x at e) = omega arith
-      go (unknown-id h at f) = omega arith
+      go (id-refused h at f) = omega arith
       go (on-header h at f x) = payload-still at f x

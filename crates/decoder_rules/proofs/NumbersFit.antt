@@ -38,3 +38,5 @@ never-22 error.FromUtf8Error q = omega arith
 never-22 error.ReadF64Mismatch q = omega arith
 never-22 (error.UnexpectedEOF c) q = omega arith
 never-22 error.NotAMaster q = omega arith
+never-22 error.InvalidIdForm q = omega arith
+never-22 error.UnknownSizePastEnd q = omega arith

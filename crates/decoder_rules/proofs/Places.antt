@@ -13,7 +13,7 @@ use Rattle.tag_parse.specs.Header.{readTagId, afterId, readHeader}
 use Rattle.tag_parse.specs.declared.types.ReadHeader.{ReadHeader}
 use Rattle.tag_parse.specs.declared.types.ReadHeader.the-variants as header
 use Rattle.tag_parse.specs.declared.types.TagHeader.{TagHeader}
-use Rattle.decoder_rules.specs.OneCall.{step6, step7, noted, validHeader}
+use Rattle.decoder_rules.specs.OneCall.{goodForm, step6, step7, noted, validHeader}
 use Rattle.decoder_rules.specs.Recovery.{forward, at, judged, judgedAt, headerAt, readAt, placeAt}
 use Rattle.decoder_rules.specs.FirstPlace.{settleHeader, settleAt, Standing, Incomplete, Valid, Other, passes, standing}
 use Rattle.decoder_rules.specs.declared.types.Check.{Check}
@@ -45,23 +45,28 @@ settled-step7 t d h u = go (d .settled) u
     go true q = refl
     go false q = absurd (false≢true q)
 
--- on another it leaves the one that settles
-pub unsettled-step7 : (t : List Entry) (d : TagDecoder) (h : TagHeader) → d .settled ≡ false → step7 t d h ≡ settleHeader t (header.Header h)
-unsettled-step7 t d h u = ap (λ (b : Bool). cond (not b && isTyped (h .kind) && onlyIds (pathOf t (h .id))) (Settle (h .path)) NoNote) u
-
--- a header that fails step 6 settles nothing
-pub untyped-settles-none : (t : List Entry) (d : TagDecoder) (h : TagHeader) → step6 d h ≡ false → settleHeader t (header.Header h) ≡ NoNote
-untyped-settles-none t d h e = go (isTyped (h .kind)) (d .settings .«allow_ids») e
+-- on another a header that was read leaves the one that settles, where it passes step 6
+pub unsettled-note : (t : List Entry) (d : TagDecoder) (h : TagHeader) → d .settled ≡ false
+    → readNote t d (header.Header h) ≡ settleHeader (d .settings .strict) t (header.Header h)
+unsettled-note t d h u =
+    go (d .settled) u (goodForm (d .settings .strict) (h .id)) (isTyped (h .kind)) (d .settings .«allow_ids») (onlyIds (pathOf t (h .id)))
   where
-    go : (a b : Bool) → (a || b) ≡ false → cond (a && onlyIds (pathOf t (h .id))) (Settle (h .path)) NoNote ≡ NoNote
-    go true b f = absurd (true≢false f)
-    go false b f = refl
+    settle : Note
+    settle = Settle (h .path)
+
+    go : (b : Bool) → b ≡ false → (form typed allowed ids : Bool)
+        → cond (form && (typed || allowed)) (cond (not b && typed && ids) settle NoNote) NoNote ≡ cond (form && (typed && ids)) settle NoNote
+    go true q form typed allowed ids = absurd (true≢false q)
+    go false q true true allowed ids = refl
+    go false q true false true ids = refl
+    go false q true false false ids = refl
+    go false q false typed allowed ids = refl
 
 -- no byte settles nothing
-pub settle-none : (t : List Entry) (s : List ℕ) → length s ≡ 0 → settleAt t s ≡ NoNote
+pub settle-none : (strict : Bool) (t : List Entry) (s : List ℕ) → length s ≡ 0 → settleAt strict t s ≡ NoNote
 unfolding settleAt readHeader afterId readTagId
-settle-none t [] e = refl
-settle-none t (b ∷ s) e = absurd (omega arith)
+settle-none strict t [] e = refl
+settle-none strict t (b ∷ s) e = absurd (omega arith)
 
 module _ (t : List Entry) (d : TagDecoder) (s : List ℕ) where
   -- on a settled record no place has a note
@@ -75,16 +80,14 @@ module _ (t : List Entry) (d : TagDecoder) (s : List ℕ) where
       go (header.Header h) = pick (λ (n : Note). n ≡ NoNote) (step6 d h) (step7 t d h) NoNote (λ f. settled-step7 t d h u) (λ f. refl)
 
   -- on another it has the one that settles
-  pub place-seen : d .settled ≡ false → placeNote t d s ≡ settleAt t s
+  pub place-seen : d .settled ≡ false → placeNote t d s ≡ settleAt (d .settings .strict) t s
   unfolding placeNote settleAt
   place-seen u = go (readHeader t s)
     where
-      go : (r : ReadHeader) → readNote t d r ≡ settleHeader t r
+      go : (r : ReadHeader) → readNote t d r ≡ settleHeader (d .settings .strict) t r
       go (header.NeedMore missing) = refl
       go (header.Refused x) = refl
-      go (header.Header h) =
-          pick (λ (n : Note). n ≡ settleHeader t (header.Header h)) (step6 d h) (step7 t d h) NoNote (λ f. unsettled-step7 t d h u)
-          (λ f. sym (untyped-settles-none t d h f))
+      go (header.Header h) = unsettled-note t d h u
 
 -- ---- what one place leaves, and how the search stands there
 

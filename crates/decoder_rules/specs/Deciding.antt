@@ -11,7 +11,7 @@ use Rattle.tag_parse.specs.declared.types.ReadHeader.{ReadHeader}
 use Rattle.tag_parse.specs.declared.types.ReadHeader.the-variants as header
 use Rattle.tag_parse.specs.declared.types.TagHeader.{TagHeader}
 use Rattle.decoder_rules.specs.Numbers.{parseError}
-use Rattle.decoder_rules.specs.OneCall.{step1, step3, closeOrFault, step6, step7, noted, validHeader, step10, step11}
+use Rattle.decoder_rules.specs.OneCall.{step1, step3, closeOrFault, step6, refusal6, step7, noted, validHeader, step10, step11}
 use Rattle.decoder_rules.specs.declared.types.Action.{Action}
 use Rattle.decoder_rules.specs.declared.types.Action.the-variants as act
 use Rattle.decoder_rules.specs.declared.types.Check.{Check}
@@ -28,7 +28,8 @@ plain a = record { note = NoNote; action = a }
 -- 10, then 11, on the record with the note
 unfoldable pub steps10-11 : List Entry → TagDecoder → TagHeader → List ℕ → Action
 steps10-11 t d h s =
-    cond (ltb (step10 t d (h .id)) (d .«open_count»)) (closeOrFault t d (step10 t d (h .id))) (step11 (d .«open_count») (d .position) h s)
+    cond (ltb (step10 t d (h .id)) (d .«open_count»)) (closeOrFault t d (step10 t d (h .id)))
+    (step11 (d .settings .strict) (d .«open_count») (d .position) h s)
 
 -- what is done where a test is passed, else its refusal
 abbrev pub unless : Check → Action → Action
@@ -39,12 +40,12 @@ unless (Fail e) a = act.Refuse e
 unfoldable pub steps8-11 : List Entry → TagDecoder → TagHeader → List ℕ → Action
 steps8-11 t d h s = unless (validHeader t d h) (steps10-11 t d h s)
 
--- 6 to 11: "ID without type: 15, unless allowed." Else the note, and the steps after it on the record with it
+-- 6 to 11: the refusal of 6, else the note, and the steps after it on the record with it
 unfoldable pub steps6-11 : List ℕ → List Entry → TagDecoder → TagHeader → List ℕ → Decision
 steps6-11 ps t d h s =
     cond (step6 d h)
     (record { note = step7 t d h; action = steps8-11 t (noted ps d (step7 t d h)) h s })
-    (plain (act.Refuse error.InvalidTagId))
+    (plain (act.Refuse (refusal6 d h)))
 
 -- 5 to 11, by what was read as a header
 unfoldable pub step5 : List ℕ → List Entry → TagDecoder → List ℕ → ReadHeader → Decision

@@ -13,7 +13,7 @@ use Rattle.tag_parse.specs.Header.{readHeader}
 use Rattle.tag_parse.specs.declared.types.ReadHeader.{ReadHeader}
 use Rattle.tag_parse.specs.declared.types.ReadHeader.the-variants as header
 use Rattle.decoder_rules.specs.Record.{atPosition, withSizesGrown}
-use Rattle.decoder_rules.specs.OneCall.{step6, step7, noted, validHeader}
+use Rattle.decoder_rules.specs.OneCall.{goodForm, step6, step7, noted, validHeader}
 use Rattle.decoder_rules.specs.declared.types.Check.{Check}
 use Rattle.decoder_rules.specs.declared.types.Check.the-variants.{Pass, Fail}
 use Rattle.decoder_rules.specs.declared.types.Note.{Note}
@@ -24,16 +24,18 @@ use Rattle.decoder_rules.specs.declared.types.TagDecoder.{TagDecoder}
 
 -- ---- the record at a place
 
--- the note of what was read as a header, where nothing has settled yet; step 7: "if not yet settled and a typed ID's path
--- is all IDs (or empty), the stack becomes those IDs"
-abbrev pub settleHeader : List Entry → ReadHeader → Note
-settleHeader t (header.NeedMore missing) = NoNote
-settleHeader t (header.Refused e) = NoNote
-settleHeader t (header.Header h) = cond (isTyped (h .kind) && onlyIds (pathOf t (h .id))) (Settle (h .path)) NoNote
+-- the note of what was read as a header, strictly or as ported, where nothing has settled yet; step 7: "if not yet
+-- settled and a typed ID's path is all IDs (or empty), the stack becomes those IDs". An ID of a form that is not taken
+-- does not come so far
+abbrev pub settleHeader : Bool → List Entry → ReadHeader → Note
+settleHeader strict t (header.NeedMore missing) = NoNote
+settleHeader strict t (header.Refused e) = NoNote
+settleHeader strict t (header.Header h) =
+    cond (goodForm strict (h .id) && (isTyped (h .kind) && onlyIds (pathOf t (h .id)))) (Settle (h .path)) NoNote
 
 -- the note of the header at the front of these bytes, where nothing has settled yet
-unfoldable pub settleAt : List Entry → List ℕ → Note
-settleAt t s = settleHeader t (readHeader t s)
+unfoldable pub settleAt : Bool → List Entry → List ℕ → Note
+settleAt strict t s = settleHeader strict t (readHeader t s)
 
 -- the first of two notes that is one
 abbrev pub orElse : Note → Note → Note
@@ -41,14 +43,14 @@ orElse NoNote later = later
 orElse (Settle path) later = Settle path
 
 -- the note of the first n places: that of the first which has one
-unfoldable pub settleBefore : List Entry → ℕ → List ℕ → Note
-settleBefore t zero s = NoNote
-settleBefore t (suc n) s = orElse (settleAt t s) (settleBefore t n (drop 1 s))
+unfoldable pub settleBefore : Bool → List Entry → ℕ → List ℕ → Note
+settleBefore strict t zero s = NoNote
+settleBefore strict t (suc n) s = orElse (settleAt strict t s) (settleBefore strict t n (drop 1 s))
 
 -- the note that the first n places leave on the record d: none where it has settled; else "A settling made at a place
 -- that then fails stays."
 unfoldable pub noteBefore : List Entry → TagDecoder → List ℕ → ℕ → Note
-noteBefore t d s n = cond (d .settled) NoNote (settleBefore t n s)
+noteBefore t d s n = cond (d .settled) NoNote (settleBefore (d .settings .strict) t n s)
 
 -- the record i bytes on, with the note that the first n places leave
 unfoldable pub recordOn : List ℕ → List Entry → TagDecoder → List ℕ → ℕ → ℕ → TagDecoder

@@ -9,3 +9,4 @@ pub mod EndOfInput
 pub mod Recovery
 pub mod FirstPlace
 pub mod Run
+pub mod Strictly

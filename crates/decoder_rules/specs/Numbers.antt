@@ -1,4 +1,4 @@
--- Document 01, "Refusal numbers": those of the decoder's calls.
+-- Document 01, "Refusal numbers": those of the decoder's calls; 80 and 81: document 02, CR 11.
 use Prim.Native.Nat.{ℕ}
 use Rattle.tag_parse.specs.declared.types.ParseError.{ParseError}
 use Rattle.tag_parse.specs.declared.types.ParseError.the-variants as parse
@@ -25,6 +25,8 @@ errorNumber error.FromUtf8Error = 20
 errorNumber error.ReadF64Mismatch = 21
 errorNumber (error.UnexpectedEOF c) = 23
 errorNumber error.NotAMaster = 24
+errorNumber error.InvalidIdForm = 80
+errorNumber error.UnknownSizePastEnd = 81
 
 -- the decoder's refusal for what reading an element refuses
 abbrev pub parseError : ParseError → DecodeError

@@ -1,13 +1,13 @@
 -- Document 01, "One call of the decoder, in order": its steps, each under its number. Deciding.antt puts them in their
--- order, and Moving.antt moves the record. Here t is the lent table as entries, d the record, s the bytes lent, h a
--- header that was read. The steps and their definitions:
+-- order, and Moving.antt moves the record. Where the strict reading (document 02, CR 11) differs, in steps 6, 8, 9, 10
+-- and 11, the step asks the record's settings which it is. Here t is the lent table as entries, d the record, s the
+-- bytes lent, h a header that was read. The steps and their definitions, those with a * in Deciding.antt:
 --   1 `step1` (`checkRecord10to12`, `check13`)     7 `step7` (`settles`, `noted`)
 --   2 `steps2-11` *                                8 `step8`
 --   3 `step3`, `closeOrFault`                      9 `step9`; 8 and 9 `validHeader`
 --   4 `steps4-11` *                                10 `step10`, `closeOrFault`
 --   5 `readHeader` (tag_parse), `step5` *          11 `step11` (`readElement`)
---   6 `step6`                                      the order of all: `decide` *
--- where * stands in Deciding.antt.
+--   6 `step6`, `refusal6`                          the order of all: `decide` *
 use Prim.Native.Nat.{ℕ, _+_, _-_}
 use mathlib.Core.Bool.{Bool, true, false, cond, not, _&&_, _||_}
 use mathlib.Core.List.{List, [], _∷_, reverse}
@@ -17,8 +17,8 @@ use Rattle.basics.specs.Lists.{every, firstIndex}
 use Rattle.table.specs.Shape.{goodShape}
 use Rattle.table.specs.Check.{onlyIds}
 use Rattle.table.specs.Table.{Entry, partsOf, partsIn, dataTypeOf, pathOf, isMaster, isTyped}
-use Rattle.spec_util.specs.Ended.{isEndedBy}
-use Rattle.spec_util.specs.Walk.{mostOpen, validateTagPath}
+use Rattle.tools.specs.ElementId.{elementIdLength}
+use Rattle.spec_util.specs.Walk.{mostOpen, endedTops, validateTagPath}
 use Rattle.spec_util.specs.declared.types.OpenTag.{OpenTag}
 use Rattle.tag_parse.specs.Payload.{valueOf}
 use Rattle.tag_parse.specs.declared.types.EBMLSize.{EBMLSize}
@@ -32,6 +32,7 @@ use Rattle.decoder_rules.specs.declared.types.Action.{Action}
 use Rattle.decoder_rules.specs.declared.types.Action.the-variants as act
 use Rattle.decoder_rules.specs.declared.types.Check.{Check}
 use Rattle.decoder_rules.specs.declared.types.Check.the-variants.{Pass, Fail}
+use Rattle.decoder_rules.specs.declared.types.DecodeError.{DecodeError}
 use Rattle.decoder_rules.specs.declared.types.DecodeError.the-variants as error
 use Rattle.decoder_rules.specs.declared.types.Note.{Note}
 use Rattle.decoder_rules.specs.declared.types.Note.the-variants.{NoNote, Settle}
@@ -96,11 +97,23 @@ step3 d = firstIndex (isFull (d .position)) (opens d)
 unfoldable pub closeOrFault : List Entry → TagDecoder → ℕ → Action
 closeOrFault t d k = cond (every (λ m. isMaster (dataTypeOf t (m .id))) (drop k (opens d))) (act.Close k) (act.Refuse error.NotAMaster)
 
--- ---- 6. "ID without type: 15, unless allowed."
+-- ---- 6. "ID without type: 15, unless allowed."; strictly, before that: "80 bad ID form before 15"
 
--- whether the ID has a type, or needs none
+-- an ID that is taken strictly has so many bytes at most: "no ID longer than 4 bytes"
+abbrev pub longestStrictId : ℕ
+longestStrictId = 4
+
+-- whether the ID has a form that is taken, strictly or as ported: strictly "no ID in a form CR 5 rejects"
+unfoldable pub goodForm : Bool → ℕ → Bool
+goodForm strict x = not strict || leb (elementIdLength x) longestStrictId
+
+-- whether the ID's form is taken, and it has a type, or needs none
 abbrev pub step6 : TagDecoder → TagHeader → Bool
-step6 d h = isTyped (h .kind) || d .settings .«allow_ids»
+step6 d h = goodForm (d .settings .strict) (h .id) && (isTyped (h .kind) || d .settings .«allow_ids»)
+
+-- what is refused where not
+abbrev pub refusal6 : TagDecoder → TagHeader → DecodeError
+refusal6 d h = cond (goodForm (d .settings .strict) (h .id)) error.InvalidTagId error.InvalidIdForm
 
 -- ---- 7. "if not yet settled and a typed ID's path is all IDs (or empty), the stack becomes those IDs"
 
@@ -124,21 +137,27 @@ noted ps d (Settle path) = settledTo d (partsIn (partsOf ps) path)
 
 -- ---- 8. "Path, for a typed ID once settled, unless allowed: 16."
 
--- whether the path is right, or need not be
+-- whether the path is right, or need not be; strictly "D4 and its like become 16"
 unfoldable pub step8 : List Entry → TagDecoder → TagHeader → Bool
-step8 t d h = not (isTyped (h .kind)) || not (d .settled) || d .settings .«allow_hierarchy» || validateTagPath t (h .id) (opens d)
+step8 t d h =
+    not (isTyped (h .kind)) || not (d .settled) || d .settings .«allow_hierarchy» || validateTagPath (d .settings .strict) t (h .id) (opens d)
 
--- ---- 9. "Known size: its end beyond any open known end: 18, unless allowed." Over the greatest size: 17
+-- ---- 9. "Known size: its end beyond any open known end: 18, unless allowed." Over the greatest size: 17. Strictly "81
+-- unknown-size header past a known end, before 18 and switched with it"
 
 -- whether a master of known size goes as far as this end
 unfoldable pub reaches : ℕ → OpenTag → Bool
 reaches end m = not (m .known) || leb end (endOf m)
 
--- 18, then 17, for a header of len bytes with this size
+-- whether every open master of known size goes as far as n bytes from the position on, or need not
+unfoldable pub fitsInside : TagDecoder → ℕ → Bool
+fitsInside d n = d .settings .«allow_oversized» || every (reaches (d .position + n)) (opens d)
+
+-- 81 strictly, of a header of len bytes; 18, then 17, of a header and the size
 unfoldable pub step9 : TagDecoder → ℕ → EBMLSize → Check
-step9 d len Unknown = Pass
+step9 d len Unknown = cond (not (d .settings .strict) || fitsInside d len) Pass (Fail error.UnknownSizePastEnd)
 step9 d len (Known n) =
-    cond (d .settings .«allow_oversized» || every (reaches (d .position + (len + n))) (opens d))
+    cond (fitsInside d (len + n))
     (cond (d .settings .«max_given» && ltb (d .settings .«max_size») n) (Fail error.InvalidTagSize) Pass)
     (Fail error.OversizedChildElement)
 
@@ -148,14 +167,9 @@ validHeader t d h = cond (step8 t d h) (step9 d (h .len) (h .size)) (Fail error.
 
 -- ---- 10. "While the top is Unknown and ended by the ID, it closes"
 
--- how many of these masters, the top first, the ID x ends before one stays open
-unfoldable pub endedTops : List Entry → ℕ → List OpenTag → ℕ
-endedTops t x [] = 0
-endedTops t x (m ∷ l) = cond (not (m .known) && isEndedBy t (m .id) x) (endedTops t x l + 1) 0
-
 -- how many masters stay open before the ID x
 abbrev pub step10 : List Entry → TagDecoder → ℕ → ℕ
-step10 t d x = d .«open_count» - endedTops t x (reverse (opens d))
+step10 t d x = d .«open_count» - endedTops (d .settings .strict) t x (reverse (opens d))
 
 -- ---- 11. "Master: 19, or Start. Else Unknown size: 14; payload incomplete: need more", then 20, 21, else Data. Document
 -- 01 has 22 before 20; no element has it (document 02, CR 8)
@@ -165,22 +179,21 @@ abbrev pub dataOr : ℕ → ℕ → ReadValue → Action
 dataOr x n (payload.Value v) = act.Data x v n
 dataOr x n (payload.Refused e) = act.Refuse (parseError e)
 
--- an element with n bytes of payload after its header at the position p; document 02, CR 1: "a payload gives what it
--- lacks"
-unfoldable pub readElement : ℕ → TagHeader → ℕ → List ℕ → Action
-readElement p h n s =
+-- an element with n bytes of payload after its header at the position p; CR 1: "a payload gives what it lacks"
+unfoldable pub readElement : Bool → ℕ → TagHeader → ℕ → List ℕ → Action
+readElement strict p h n s =
     cond (ltb (length s) (h .len + n)) (act.NeedMore (h .len + n - length s))
     (dataOr (h .id) (h .len + n)
-    (valueOf (h .kind) (take n (drop (h .len) s)) (record { begin = p + h .len; end = p + (h .len + n) })))
+    (valueOf strict (h .kind) (take n (drop (h .len) s)) (record { begin = p + h .len; end = p + (h .len + n) })))
 
 -- an element that is no Master, with this size in its header at the position p
-unfoldable pub elementOf : ℕ → TagHeader → EBMLSize → List ℕ → Action
-elementOf p h Unknown s = act.Refuse error.InvalidTagData
-elementOf p h (Known n) s = readElement p h n s
+unfoldable pub elementOf : Bool → ℕ → TagHeader → EBMLSize → List ℕ → Action
+elementOf strict p h Unknown s = act.Refuse error.InvalidTagData
+elementOf strict p h (Known n) s = readElement strict p h n s
 
 -- a Start, or an element that is none, where so many masters are open and the header stands at the position p
-unfoldable pub step11 : ℕ → ℕ → TagHeader → List ℕ → Action
-step11 count p h s =
+unfoldable pub step11 : Bool → ℕ → ℕ → TagHeader → List ℕ → Action
+step11 strict count p h s =
     cond (isMaster (h .kind))
     (cond (leb mostOpen count) (act.Refuse error.TooManyOpen) (act.Start (h .id) (h .size) (h .len)))
-    (elementOf p h (h .size) s)
+    (elementOf strict p h (h .size) s)

@@ -55,9 +55,16 @@ endsFrom d k = map endFor (reverse (drop k (opens d)))
 
 -- ---- how it moves
 
--- the settings of a fresh decoder: nothing allowed, and a size at most 4,000,000,000
+-- the settings of a fresh decoder: nothing allowed, not strict, and a size at most 4,000,000,000
 abbrev pub firstSettings : Settings
-firstSettings = record { «allow_ids» = false; «allow_hierarchy» = false; «allow_oversized» = false; «max_given» = true; «max_size» = firstGreatestSize }
+firstSettings = record {
+  «allow_ids» = false;
+  «allow_hierarchy» = false;
+  «allow_oversized» = false;
+  strict = false;
+  «max_given» = true;
+  «max_size» = firstGreatestSize;
+}
 
 -- a fresh decoder: nothing read, nothing open, nothing waits
 abbrev pub fresh : TagDecoder

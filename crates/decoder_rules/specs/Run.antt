@@ -45,6 +45,8 @@ namedBy error.FromUtf8Error = nothing
 namedBy error.ReadF64Mismatch = nothing
 namedBy (error.UnexpectedEOF c) = cut c
 namedBy error.NotAMaster = nothing
+namedBy error.InvalidIdForm = nothing
+namedBy error.UnknownSizePastEnd = nothing
 
 -- what an answer tells
 abbrev pub toldBy : Answer → Told

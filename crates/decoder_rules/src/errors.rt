@@ -24,6 +24,8 @@ pub fn error_number(e: DecodeError) -> u64
         DecodeError::ReadF64Mismatch => 21,
         DecodeError::UnexpectedEOF(_) => 23,
         DecodeError::NotAMaster => 24,
+        DecodeError::InvalidIdForm => 80,
+        DecodeError::UnknownSizePastEnd => 81,
     }
 }
 

@@ -23,12 +23,13 @@ pub struct WaitingEnd {
     pub count: u64,
 }
 
-// The settings: the tests that are switched off (unknown IDs, hierarchy, child sizes), and the greatest size, if one is
-// given.
+// The settings: the tests that are switched off (unknown IDs, hierarchy, child sizes), whether reading is strict, and
+// the greatest size, if one is given.
 pub struct Settings {
     pub allow_ids: bool,
     pub allow_hierarchy: bool,
     pub allow_oversized: bool,
+    pub strict: bool,
     pub max_given: bool,
     pub max_size: u64,
 }
@@ -81,7 +82,8 @@ pub struct Cut {
     pub part: Part,
 }
 
-// The Rust's errors under their names; the first four and the last two have no counterpart there.
+// The Rust's errors under their names; the first four and the last four have no counterpart there. The last two are of
+// the strict reading alone.
 pub enum DecodeError {
     TableShape,
     BadState,
@@ -97,6 +99,8 @@ pub enum DecodeError {
     ReadF64Mismatch,
     UnexpectedEOF(Cut),
     NotAMaster,
+    InvalidIdForm,
+    UnknownSizePastEnd,
 }
 
 // A refusal and its place.

@@ -4,13 +4,13 @@ use mathlib.Core.Path.{_≡_, refl, sym, ap}
 use mathlib.Core.Bool.{Bool, true, false≢true}
 use mathlib.Core.List.{List, [], _∷_, _++_, append-nil}
 use lib.ListN.{drop}
-use Rattle.decoder_rules.specs.Record.{fresh}
 use Rattle.decoder_rules.specs.declared.types.Answer.{Answer}
 use Rattle.decoder_rules.specs.declared.types.Answer.the-variants as answer
 use Rattle.decoder_rules.specs.declared.types.Decoded.{Decoded}
 use Rattle.decoder_rules.specs.declared.types.Event.{Event}
 use Rattle.decoder_rules.proofs.MoveLaws.{isNoEvent}
 use Rattle.event_list.specs.Line.{line}
+use Rattle.event_list.specs.Reading.{begun}
 use Rattle.event_list.specs.Whole.{nextAnswer, Answered, answeredBy, Answers, goes-on, ends, linesOf, ListOf}
 use Rattle.event_list.specs.Computed.{withOthers, listedFrom, listed}
 
@@ -52,5 +52,5 @@ reads size (suc n) r s h = go (r .answer) refl h (reads size n (nextAnswer size 
     go (answer.Refused x) q k others = alone size r s (rw q)
 
 -- of a whole input: where n lines are all of it, they are its list
-pub listed-is-the-list : (size n : ℕ) (s : List ℕ) → listed size n s .0 ≡ true → ListOf size s (listed size n s .1)
-listed-is-the-list size n s h = let o = reads size n (nextAnswer size fresh s) s h in record { answers = o .all; to = o .to; lines = o .lines }
+pub listed-is-the-list : (strict : Bool) (size n : ℕ) (s : List ℕ) → listed strict size n s .0 ≡ true → ListOf strict size s (listed strict size n s .1)
+listed-is-the-list strict size n s h = let o = reads size n (nextAnswer size (begun strict) s) s h in record { answers = o .all; to = o .to; lines = o .lines }

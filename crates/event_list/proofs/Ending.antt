@@ -58,6 +58,7 @@ unfolding move counted withOpen withNotes opened
 header-nearer w some l (exit.misplaced p) q = absurd (true≢false q)
 header-nearer w some l (exit.oversized n p z f) q = absurd (true≢false q)
 header-nearer w some l (exit.too-large n p z f g) q = absurd (true≢false q)
+header-nearer w some l (exit.past-end p z f g) q = absurd (true≢false q)
 header-nearer {s = s} w some l (exit.ends-tops v k c) q = closing-nearer (length s) w k c q
 header-nearer w some l (exit.too-many at k f) q = absurd (true≢false q)
 header-nearer w some l (exit.starts at k f) q = omega arith
@@ -77,7 +78,7 @@ module _ (es ps : List ℕ) (d : TagDecoder) (s : List ℕ) (byte : Octets s) wh
   exit-nearer (exit.no-byte n z) q = absurd (true≢false q)
   exit-nearer (exit.header-incomplete at e) q = absurd (true≢false q)
   exit-nearer (exit.header-refused x at e) q = absurd (true≢false q)
-  exit-nearer (exit.unknown-id h at f) q = absurd (true≢false q)
+  exit-nearer (exit.id-refused h at f) q = absurd (true≢false q)
   exit-nearer (exit.on-header h at f x) q =
       let i = header-sound (tableOf es ps) s h byte (at .read) in
       let some : 0 < h .len = let one = i .vint .vint .at-least-1 in omega (arith, i .taken) in

@@ -49,7 +49,7 @@ printed (suc n) s =
 
 -- the list of an input that comes in these pieces, in a buffer of so many zero bytes
 abbrev pub list : ℕ → List (List ℕ) → List ℕ
-list size pieces = printed 32 (record { at = started; buffer = replicate size 0; pieces = pieces })
+list size pieces = printed 32 (record { at = started false; buffer = replicate size 0; pieces = pieces })
 
 -- ---- D1
 

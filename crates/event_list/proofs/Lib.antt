@@ -1,8 +1,10 @@
 pub mod PrintsTheList
+pub mod Begun
 pub mod Buffers
 pub mod Computed
 pub mod Ending
 pub mod Starred
+pub mod StarredStrictly
 pub mod Examples
 pub mod Filling
 pub mod Putting

@@ -1,6 +1,7 @@
--- The answers of a run are those to its input, wherever the reads cut it: `runs-through`. So what the lister prints is
--- the list of its input: `prints-the-list`. The invariant of a run: what is unread and the pieces that are left are together what is still to come; before the end of input the
--- decoder is not finished and within 2^62; after it nothing is left to read, and the buffer has room. Assumes nothing.
+-- The answers of a run, strict or as ported, are those to its input, wherever the reads cut it: `runs-through`. So what
+-- the lister prints is the list of its input: `prints-the-list`. The invariant of a run: what is unread and the pieces
+-- that are left are together what is still to come; before the end of input the decoder is not finished and within
+-- 2^62; after it nothing is left to read, and the buffer has room. Assumes nothing.
 use Prim.Native.Nat.{ℕ, zero, suc, _+_, _-_, _*_, _^_, _≤_, _<_}
 use mathlib.Core.Path.{_≡_, refl, sym, ap, _∙_}
 use mathlib.Core.Bool.{Bool, true, false, cond, false≢true}
@@ -14,7 +15,7 @@ use lib.Seq.{drop-append-le}
 use Rattle.basics.proofs.Bools.{absurd-eq}
 use Rattle.tools.specs.Bytes.{Octets}
 use Rattle.tag_parse.proofs.Cases.{octets-drop}
-use Rattle.decoder_rules.specs.Record.{fresh}
+use Rattle.decoder_rules.specs.Record.{withSettings}
 use Rattle.decoder_rules.specs.Moving.{needsMore, decode}
 use Rattle.decoder_rules.specs.EndOfInput.{decodeEof}
 use Rattle.decoder_rules.specs.declared.types.Answer.{Answer}
@@ -24,7 +25,7 @@ use Rattle.decoder_rules.specs.declared.types.Event.{Event}
 use Rattle.decoder_rules.specs.declared.types.TagDecoder.{TagDecoder}
 use Rattle.tag_decoder.proofs.CallLaws.{moves-on}
 use Rattle.table.specs.BenchTable.{benchEntries, benchParts}
-use Rattle.event_list.specs.Reading.{listing, started, unreadCount, unread, called, nextOf, callOnce, unreadMovedToFront}
+use Rattle.event_list.specs.Reading.{listing, begun, started, unreadCount, unread, called, nextOf, callOnce, unreadMovedToFront}
 use Rattle.event_list.specs.Run.{joined, NoneEmpty, refilled, answeredAt, Runs, a-line, the-last, a-read, Prints}
 use Rattle.event_list.specs.Whole.{nextAnswer, Answered, answeredBy, Answers, goes-on, ends, AnswersTo, linesOf, ListOf}
 use Rattle.event_list.specs.declared.types.Listing.{Listing}
@@ -311,8 +312,9 @@ run-answers (the-last l b ps q) s inv =
     rw (answers l b ps s inv full) (ends (answered l b) s (last-no-event (answered l b .answer) (unreadCount l b) (length b) q))
 run-answers (a-read l b ps q p) s inv = read-case l b ps s inv q (λ i. run-answers p s i)
 
-at-start : (size : ℕ) (ps : List (List ℕ)) → NoneEmpty ps → Octets (joined ps) → length (joined ps) ≤ 2 ^ 62 → Inv started (replicate size 0) ps (joined ps)
-at-start size ps some byte few =
+at-start : (strict : Bool) (size : ℕ) (ps : List (List ℕ)) → NoneEmpty ps → Octets (joined ps) → length (joined ps) ≤ 2 ^ 62 → Inv (started strict) (replicate size 0) ps (joined ps)
+unfolding withSettings
+at-start strict size ps some byte few =
     record {
       whole = ap (λ (x : List ℕ). x ++ joined ps) (sym nothing-yet);
       some = some;
@@ -321,19 +323,19 @@ at-start size ps some byte few =
       over = λ t. absurd (false≢true t);
     }
   where
-    nothing-yet : unread started (replicate size 0) ≡ []
-    nothing-yet = unread-front fresh [] (replicate size 0) 0 false refl
+    nothing-yet : unread (started strict) (replicate size 0) ≡ []
+    nothing-yet = unread-front (begun strict) [] (replicate size 0) 0 false refl
 
 -- from the start: a run with a buffer of so many zero bytes, on an input of at most 2^62 bytes in any pieces, has the
 -- answers to the input
-pub runs-through : (size : ℕ) (ps : List (List ℕ)) {rs : List Answered} → NoneEmpty ps → Octets (joined ps) → length (joined ps) ≤ 2 ^ 62
-    → Runs started (replicate size 0) ps rs → AnswersTo size (joined ps) rs
-runs-through size ps some byte few run = rw (length-replicate {A = ℕ} size 0) at (run-answers run (joined ps) (at-start size ps some byte few))
+pub runs-through : (strict : Bool) (size : ℕ) (ps : List (List ℕ)) {rs : List Answered} → NoneEmpty ps → Octets (joined ps) → length (joined ps) ≤ 2 ^ 62
+    → Runs (started strict) (replicate size 0) ps rs → AnswersTo strict size (joined ps) rs
+runs-through strict size ps some byte few run = rw (length-replicate {A = ℕ} size 0) at (run-answers run (joined ps) (at-start strict size ps some byte few))
 
 -- so it prints the list of the input
-pub prints-the-list : (size : ℕ) (ps : List (List ℕ)) {text : List ℕ} → NoneEmpty ps → Octets (joined ps) → length (joined ps) ≤ 2 ^ 62
-    → Prints started (replicate size 0) ps text → ListOf size (joined ps) text
-prints-the-list size ps some byte few p = record { answers = p .answers; to = runs-through size ps some byte few (p .run); lines = p .lines }
+pub prints-the-list : (strict : Bool) (size : ℕ) (ps : List (List ℕ)) {text : List ℕ} → NoneEmpty ps → Octets (joined ps) → length (joined ps) ≤ 2 ^ 62
+    → Prints (started strict) (replicate size 0) ps text → ListOf strict size (joined ps) text
+prints-the-list strict size ps some byte few p = record { answers = p .answers; to = runs-through strict size ps some byte few (p .run); lines = p .lines }
 
 -- what is still to come has one run of answers
 pub one-run : (size : ℕ) {r : Decoded} {s : List ℕ} {rs ts : List Answered} → Answers size r s rs → Answers size r s ts → rs ≡ ts
@@ -343,20 +345,20 @@ one-run size (ends r s n) (goes-on r' s' q p) = absurd (n _ q)
 one-run size (ends r s n) (ends r' s' n') = refl
 
 -- an input has one list
-pub one-list : (size : ℕ) {s text other : List ℕ} → ListOf size s text → ListOf size s other → text ≡ other
-one-list size p q = p .lines ∙ ap linesOf (one-run size (p .to) (q .to)) ∙ sym (q .lines)
+pub one-list : (strict : Bool) (size : ℕ) {s text other : List ℕ} → ListOf strict size s text → ListOf strict size s other → text ≡ other
+one-list strict size p q = p .lines ∙ ap linesOf (one-run size (p .to) (q .to)) ∙ sym (q .lines)
 
 -- two runs on the same input, however each is cut, have the same answers
-pub same-answers-however-cut : (size : ℕ) (ps qs : List (List ℕ)) {rs ts : List Answered} → joined ps ≡ joined qs → NoneEmpty ps → NoneEmpty qs → Octets (joined ps)
-    → length (joined ps) ≤ 2 ^ 62 → Runs started (replicate size 0) ps rs → Runs started (replicate size 0) qs ts → rs ≡ ts
-same-answers-however-cut size ps qs e somep someq byte few run run' =
-    one-run size (rw e at (runs-through size ps somep byte few run)) (runs-through size qs someq (rw e at byte) (rw e at few) run')
+pub same-answers-however-cut : (strict : Bool) (size : ℕ) (ps qs : List (List ℕ)) {rs ts : List Answered} → joined ps ≡ joined qs → NoneEmpty ps → NoneEmpty qs → Octets (joined ps)
+    → length (joined ps) ≤ 2 ^ 62 → Runs (started strict) (replicate size 0) ps rs → Runs (started strict) (replicate size 0) qs ts → rs ≡ ts
+same-answers-however-cut strict size ps qs e somep someq byte few run run' =
+    one-run size (rw e at (runs-through strict size ps somep byte few run)) (runs-through strict size qs someq (rw e at byte) (rw e at few) run')
 
 -- so they print the same
-pub same-however-cut : (size : ℕ) (ps qs : List (List ℕ)) {text other : List ℕ} → joined ps ≡ joined qs → NoneEmpty ps → NoneEmpty qs → Octets (joined ps)
-    → length (joined ps) ≤ 2 ^ 62 → Prints started (replicate size 0) ps text → Prints started (replicate size 0) qs other → text ≡ other
-same-however-cut size ps qs e somep someq byte few p q =
-    p .lines ∙ ap linesOf (same-answers-however-cut size ps qs e somep someq byte few (p .run) (q .run)) ∙ sym (q .lines)
+pub same-however-cut : (strict : Bool) (size : ℕ) (ps qs : List (List ℕ)) {text other : List ℕ} → joined ps ≡ joined qs → NoneEmpty ps → NoneEmpty qs → Octets (joined ps)
+    → length (joined ps) ≤ 2 ^ 62 → Prints (started strict) (replicate size 0) ps text → Prints (started strict) (replicate size 0) qs other → text ≡ other
+same-however-cut strict size ps qs e somep someq byte few p q =
+    p .lines ∙ ap linesOf (same-answers-however-cut strict size ps qs e somep someq byte few (p .run) (q .run)) ∙ sym (q .lines)
 
 -- ---- a run comes to its end
 
@@ -430,12 +432,12 @@ within-steps (suc n) l b ps s inv h =
     by Read q on again = record { answers = again q .answers; run = a-read l b ps q (again q .run) }
 
 -- every input of at most 2^62 bytes, in any pieces, has a run with a last answer
-pub run-ends : (size : ℕ) (ps : List (List ℕ)) → NoneEmpty ps → Octets (joined ps) → length (joined ps) ≤ 2 ^ 62 → Ended started (replicate size 0) ps
-run-ends size ps some byte few =
-    within-steps (suc (far started (replicate size 0) ps)) started (replicate size 0) ps (joined ps) (at-start size ps some byte few) (omega arith)
+pub run-ends : (strict : Bool) (size : ℕ) (ps : List (List ℕ)) → NoneEmpty ps → Octets (joined ps) → length (joined ps) ≤ 2 ^ 62 → Ended (started strict) (replicate size 0) ps
+run-ends strict size ps some byte few =
+    within-steps (suc (far (started strict) (replicate size 0) ps)) (started strict) (replicate size 0) ps (joined ps) (at-start strict size ps some byte few) (omega arith)
 
 -- so it is listed to its end
-pub comes-to-an-end : (size : ℕ) (ps : List (List ℕ)) → NoneEmpty ps → Octets (joined ps) → length (joined ps) ≤ 2 ^ 62 → Printed started (replicate size 0) ps
-comes-to-an-end size ps some byte few =
-    let e = run-ends size ps some byte few in
+pub comes-to-an-end : (strict : Bool) (size : ℕ) (ps : List (List ℕ)) → NoneEmpty ps → Octets (joined ps) → length (joined ps) ≤ 2 ^ 62 → Printed (started strict) (replicate size 0) ps
+comes-to-an-end strict size ps some byte few =
+    let e = run-ends strict size ps some byte few in
     record { text = linesOf (e .answers); prints = record { answers = e .answers; run = e .run; lines = refl } }

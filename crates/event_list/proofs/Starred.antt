@@ -125,9 +125,9 @@ lent d s = ranAs (decodeCalls 9 benchEntries benchParts d s) (endedAfter (decode
 abbrev pub gives : List Call → Call → List Call → TagDecoder → Outcome
 gives events last ended d = ran (events ++ (last ∷ [])) ended d (events ++ ended) d
 
--- the list of an input, with the lister's buffer
-abbrev pub lists : List ℕ → Outcome
-lists s = printed (listed 4096 9 s)
+-- the list of an input, read strictly or as ported, with the lister's buffer
+abbrev pub lists : Bool → List ℕ → Outcome
+lists strict s = printed (listed strict 4096 9 s)
 
 -- these lines, and none after them
 abbrev pub prints : List String → Outcome
@@ -150,7 +150,7 @@ d1Lines = "S 4E01 0" ∷ "S A1 3" ∷ "U A2 5 120" ∷ "T A3 8 10 12" ∷ "E A1 
 abbrev pub starred : List (Outcome × Outcome)
 starred =
     -- D1: the list that is printed
-    (lists d1, prints d1Lines)
+    (lists false d1, prints d1Lines)
     -- D1: the calls
     ∷ (lent fresh d1, gives (starts 0x4E01 0 3 ∷ starts 0xA1 3 2 ∷ unsigned 0xA2 5 120 3 ∷ text 0xA3 8 10 12 4 ∷ ends 0xA1 3 2 ∷ ends 0x4E01 0 1 ∷ []) asksForMore (finishes ∷ []) (doneAt fresh 12))
     -- D2: Starts, Amount, both Ends at the end of input, finished
@@ -191,6 +191,6 @@ unfolding rulesCompute digits places lines.elementText lines.rangeText lines.val
 all-starred = refl
 
 -- so what document 01 prints is D1's list by the lister's definition, with its buffer
-pub d1-listed : ListOf 4096 d1 (textLines d1Lines)
+pub d1-listed : ListOf false 4096 d1 (textLines d1Lines)
 unfolding rulesCompute digits places lines.elementText lines.rangeText lines.valueText lines.eventText lines.refusalText lines.positionText lines.answerText lines.line nextAnswer textLines listedFrom
-d1-listed = listed-is-the-list 4096 9 d1 refl
+d1-listed = listed-is-the-list false 4096 9 d1 refl

@@ -4,13 +4,13 @@ use Prim.Native.String.{String}
 use mathlib.Core.Bool.{Bool, true, false}
 use mathlib.Core.List.{List, [], _∷_, _++_}
 use lib.ListN.{drop}
-use Rattle.decoder_rules.specs.Record.{fresh}
 use Rattle.decoder_rules.specs.declared.types.Answer.{Answer}
 use Rattle.decoder_rules.specs.declared.types.Answer.the-variants as answer
 use Rattle.decoder_rules.specs.declared.types.Decoded.{Decoded}
 use Rattle.decoder_rules.specs.declared.types.TagDecoder.{TagDecoder}
 use Rattle.texts.specs.Ascii.{ascii}
 use Rattle.event_list.specs.Line.{line}
+use Rattle.event_list.specs.Reading.{begun}
 use Rattle.event_list.specs.Whole.{nextAnswer}
 
 -- lines of text, a newline after each
@@ -32,6 +32,7 @@ listedFrom size (suc n) r s =
     withOthers (r .answer) (line (r .answer) (r .state .position))
     (λ u. listedFrom size n (nextAnswer size (r .state) (drop (r .taken) s)) (drop (r .taken) s))
 
--- at most n lines of the list of the input s, with a buffer of so many bytes: whether that is all of it, and its text
-abbrev pub listed : ℕ → ℕ → List ℕ → Bool × List ℕ
-listed size n s = listedFrom size n (nextAnswer size fresh s) s
+-- at most n lines of the list of the input s, read strictly or as ported, with a buffer of so many bytes: whether that
+-- is all of it, and its text
+abbrev pub listed : Bool → ℕ → ℕ → List ℕ → Bool × List ℕ
+listed strict size n s = listedFrom size n (nextAnswer size (begun strict) s) s

@@ -7,6 +7,7 @@ use lib.Dec.{ltb, eqb}
 use lib.IntN.{ℤ, pos, negsuc}
 use lib.ListN.{length, take, drop}
 use Rattle.decoder_rules.specs.Record.{fresh}
+use Rattle.decoder_rules.specs.Settings.{reading}
 use Rattle.decoder_rules.specs.Moving.{decode}
 use Rattle.decoder_rules.specs.EndOfInput.{decodeEof}
 use Rattle.decoder_rules.specs.declared.types.Answer.{Answer}
@@ -23,9 +24,13 @@ use Rattle.event_list.specs.declared.types.CallResult.{CallResult}
 abbrev pub listing : TagDecoder → ℕ → ℕ → Bool → Listing
 listing d from upto ended = record { decoder = d; from = from; upto = upto; ended = ended }
 
--- at the start nothing is read, and the settings are as at first
-abbrev pub started : Listing
-started = listing fresh 0 0 false
+-- the decoder that a program begins with: fresh, and reading strictly or as ported
+abbrev pub begun : Bool → TagDecoder
+begun strict = reading fresh strict
+
+-- at the start nothing is read
+abbrev pub started : Bool → Listing
+started strict = listing (begun strict) 0 0 false
 
 -- ---- the unread bytes: those of the buffer from `from` up to `upto`, whatever the two numbers are
 

@@ -1,12 +1,11 @@
--- The answers to a whole input, with a buffer of so many bytes, and its list: no word of reads, of pieces or of what
--- stood in the buffer when.
+-- The answers to a whole input, read strictly or as ported, with a buffer of so many bytes, and its list: no word of
+-- reads, of pieces or of what stood in the buffer when.
 use Prim.Native.Nat.{ℕ}
-use mathlib.Core.Bool.{cond}
+use mathlib.Core.Bool.{Bool, cond}
 use mathlib.Core.Path.{_≡_}
 use mathlib.Core.List.{List, [], _∷_, _++_}
 use lib.Dec.{ltb}
 use lib.ListN.{length, take, drop}
-use Rattle.decoder_rules.specs.Record.{fresh}
 use Rattle.decoder_rules.specs.Moving.{decode}
 use Rattle.decoder_rules.specs.EndOfInput.{decodeEof}
 use Rattle.decoder_rules.specs.declared.types.Answer.{Answer}
@@ -16,6 +15,7 @@ use Rattle.decoder_rules.specs.declared.types.Event.{Event}
 use Rattle.decoder_rules.specs.declared.types.TagDecoder.{TagDecoder}
 use Rattle.table.specs.BenchTable.{benchEntries, benchParts}
 use Rattle.event_list.specs.Line.{line}
+use Rattle.event_list.specs.Reading.{begun}
 
 -- what is answered next, with s still to come: where that is less than the buffer holds, it is all that there is; else
 -- the first bytes of it are all that can be seen, and need more says that the element is larger than the buffer
@@ -38,8 +38,8 @@ pub data Answers (size : ℕ) : Decoded → List ℕ → List Answered → Type 
   ends : (r : Decoded) (s : List ℕ) → ((e : Event) → r .answer ≡ answer.Event e → ⊥) → Answers size r s (answeredBy r ∷ [])
 
 -- these are the answers to the input s
-abbrev pub AnswersTo : ℕ → List ℕ → List Answered → Type 0
-AnswersTo size s rs = Answers size (nextAnswer size fresh s) s rs
+abbrev pub AnswersTo : Bool → ℕ → List ℕ → List Answered → Type 0
+AnswersTo strict size s rs = Answers size (nextAnswer size (begun strict) s) s rs
 
 -- the lines of answers
 unfoldable pub linesOf : List Answered → List ℕ
@@ -47,7 +47,7 @@ linesOf [] = []
 linesOf (a ∷ rs) = line (a .answer) (a .after .position) ++ linesOf rs
 
 -- the text is the list of the input s: the lines of the answers to it
-pub record ListOf (size : ℕ) (s text : List ℕ) : Type 0 where
+pub record ListOf (strict : Bool) (size : ℕ) (s text : List ℕ) : Type 0 where
   pub answers : List Answered
-  pub to : AnswersTo size s answers
+  pub to : AnswersTo strict size s answers
   pub lines : text ≡ linesOf answers

@@ -18,12 +18,13 @@ use table::bench::parts;
 use tag_decoder::calls::decode;
 use tag_decoder::calls::decode_eof;
 use tag_decoder::settings::new;
+use tag_decoder::settings::set_strict;
 
-// What is kept before the first read: a fresh decoder, and nothing unread.
-pub fn start() -> Listing
-    ensures { λ r. ⌜ r ≡ started ⌝ }
+// What is kept before the first read: a fresh decoder, reading strictly or as ported, and nothing unread.
+pub fn start(strict: bool) -> Listing
+    ensures { λ r. ⌜ r ≡ started strict ⌝ }
 {
-    let decoder = new();
+    let decoder = set_strict(new(), strict);
     Listing {
         decoder,
         from: 0,

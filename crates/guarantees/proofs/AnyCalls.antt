@@ -25,18 +25,18 @@ use Rattle.decoder_rules.specs.declared.types.Settings.{Settings}
 use Rattle.decoder_rules.specs.declared.types.TagDecoder.{TagDecoder}
 use Rattle.basics.proofs.Bools.{cond-yes, cond-no}
 use Rattle.decoder_rules.specs.Record.{withSettings}
-use Rattle.decoder_rules.specs.Settings.{withAllowances, withGreatest, allowing, limitedTo}
+use Rattle.decoder_rules.specs.Settings.{withAllowances, withStrict, withGreatest, allowing, limitedTo}
 use Rattle.decoder_rules.proofs.FirstPlace.{settled-before}
 use Rattle.decoder_rules.proofs.MoveEffects.{opens-length}
-use Rattle.guarantees.specs.Calls.{Call, decoding, ending, recovering, allow, limit, lent, Response, answered, searched, silent, responseTo, next, recordAfter, history, Lent}
-use Rattle.guarantees.specs.Settling.{impliedBy, seenNote, hasSettled, seenParents}
+use Rattle.guarantees.specs.Calls.{Call, decoding, ending, recovering, allow, strictly, limit, lent, Response, answered, searched, silent, responseTo, next, recordAfter, history, Lent}
+use Rattle.guarantees.specs.Settling.{modeAfter, isStrictAfter, impliedBy, seenNote, hasSettled, seenParents}
 use Rattle.guarantees.specs.History.{Started, afterResponse, startsOpen, leftBy, parentsLeft, takenIn, position, testAfter, childTestOn}
 use Rattle.guarantees.specs.Promises.{Runs, leftAt}
 use Rattle.guarantees.proofs.Notes.{searchNoteOr, noteOf}
 use Rattle.guarantees.proofs.Decided.{NoteFacts, decide-facts}
 use Rattle.guarantees.proofs.Tied.{stack, Tied, fresh-tied}
 use Rattle.guarantees.proofs.Moves.{settings-linked}
-use Rattle.guarantees.proofs.Steps.{AnswerFacts, Quiet, stack-length, unsettled-waiting, Measured, Batch, decode-called, eof-called}
+use Rattle.guarantees.proofs.Steps.{AnswerFacts, Quiet, stack-length, unsettled-waiting, Measured, SettledBy, Batch, decode-called, eof-called}
 use Rattle.guarantees.proofs.ImpliedParentsVisible.{Began, next-settled, note-seen}
 use Rattle.guarantees.proofs.Recovery.{SearchFacts, recover-searched, recover-keeps}
 
@@ -58,10 +58,16 @@ ResponseFacts t off s starts left p (searched a n) = SearchFacts a
 ResponseFacts t off s starts left p silent = Unit {0}
 
 -- a Start takes its header alone and a Data its element whole, of what any call answers
-abbrev pub MeasuredResponse : List Entry → List ℕ → ℕ → Response → Type 0
-MeasuredResponse t s p (answered a n) = Measured t s p a n
-MeasuredResponse t s p (searched a n) = Unit {0}
-MeasuredResponse t s p silent = Unit {0}
+abbrev pub MeasuredResponse : Bool → List Entry → List ℕ → ℕ → Response → Type 0
+MeasuredResponse strict t s p (answered a n) = Measured strict t s p a n
+MeasuredResponse strict t s p (searched a n) = Unit {0}
+MeasuredResponse strict t s p silent = Unit {0}
+
+-- `SettledBy` of any call
+abbrev pub SettledByResponse : List Entry → Response → TagDecoder → Type 0
+SettledByResponse t (answered a n) e = SettledBy t a e
+SettledByResponse t (searched a n) e = Unit {0}
+SettledByResponse t silent e = Unit {0}
 
 -- an End closes with those that still wait, of what any call answers
 abbrev pub BatchResponse : List Started → ℕ → Response → TagDecoder → Type 0
@@ -80,11 +86,14 @@ pub record After (es ps : List ℕ) (d : TagDecoder) (starts : List Started) (le
   pub promised : ResponseFacts (tableOf es ps) (d .settings .«allow_oversized») (lent c) starts left p (responseTo es ps d c)
   pub tied :
       Tied (tableOf es ps) (next es ps d c) (afterResponse (tableOf es ps) (lent c) (responseTo es ps d c) starts) (leftBy (responseTo es ps d c) starts left) (p + takenIn (responseTo es ps d c))
-  pub measured : MeasuredResponse (tableOf es ps) (lent c) p (responseTo es ps d c)
+  pub measured : MeasuredResponse (d .settings .strict) (tableOf es ps) (lent c) p (responseTo es ps d c)
+  pub settles : SettledByResponse (tableOf es ps) (responseTo es ps d c) (next es ps d c)
   pub quiet : QuietResponse (responseTo es ps d c) (next es ps d c)
   pub batch : BatchResponse (stack starts left) p (responseTo es ps d c) (next es ps d c)
   -- the child-size test is on after it as the call says
   pub test : not (next es ps d c .settings .«allow_oversized») ≡ testAfter c (not (d .settings .«allow_oversized»))
+  -- and so is the mode
+  pub mode : next es ps d c .settings .strict ≡ modeAfter c (d .settings .strict)
 
 module _ (es ps : List ℕ) (checked : checkTable es ps ≡ Passed) (d : TagDecoder) (starts : List Started) (left : List ℕ) (p : ℕ)
     (k : Tied (tableOf es ps) d starts left p) where
@@ -104,6 +113,11 @@ module _ (es ps : List ℕ) (checked : checkTable es ps ≡ Passed) (d : TagDeco
   same-test Nothing = refl
   same-test (Number n) = refl
 
+  same-mode : (n : Optional) → limitedTo d n .settings .strict ≡ d .settings .strict
+  unfolding withSettings
+  same-mode Nothing = refl
+  same-mode (Number n) = refl
+
   set-test : (ids hierarchy oversized : Bool) → not (allowing d ids hierarchy oversized .settings .«allow_oversized») ≡ testAfter (allow ids hierarchy oversized) (not (d .settings .«allow_oversized»))
   unfolding withSettings
   set-test ids hierarchy oversized = refl
@@ -113,15 +127,16 @@ module _ (es ps : List ℕ) (checked : checkTable es ps ≡ Passed) (d : TagDeco
   unfolding impliedBy withSettings
   after (decoding s) byte =
       let c = decode-called es ps (good-shape es ps checked) (passed-gives es ps checked) d s byte starts left p k in
-      record { promised = c .promised; tied = c .tied; measured = c .measured; quiet = c .quiet; batch = c .batch; test = ap not (c .kept) }
+      record { promised = c .promised; tied = c .tied; measured = c .measured; settles = c .settles; quiet = c .quiet; batch = c .batch; test = ap (λ (x : Settings). not (x .«allow_oversized»)) (c .kept); mode = ap (λ (x : Settings). x .strict) (c .kept) }
   after (ending s) byte =
       let c = eof-called es ps (good-shape es ps checked) (passed-gives es ps checked) d s byte starts left p k in
-      record { promised = c .promised; tied = c .tied; measured = c .measured; quiet = c .quiet; batch = c .batch; test = ap not (c .kept) }
+      record { promised = c .promised; tied = c .tied; measured = c .measured; settles = c .settles; quiet = c .quiet; batch = c .batch; test = ap (λ (x : Settings). not (x .«allow_oversized»)) (c .kept); mode = ap (λ (x : Settings). x .strict) (c .kept) }
   after (recovering s) byte =
       let c = recover-searched es ps (good-shape es ps checked) (passed-gives es ps checked) starts d s left p k in
-      record { promised = c .promised; tied = c .tied; measured = tt; quiet = tt; batch = tt; test = ap (λ (s : Settings). not (s .«allow_oversized»)) (recover-keeps es ps d s .settings) }
-  after (allow ids hierarchy oversized) byte = record { promised = tt; tied = set-tied (withAllowances (d .settings) ids hierarchy oversized); measured = tt; quiet = tt; batch = tt; test = set-test ids hierarchy oversized }
-  after (limit n) byte = record { promised = tt; tied = limited n; measured = tt; quiet = tt; batch = tt; test = same-test n }
+      record { promised = c .promised; tied = c .tied; measured = tt; settles = tt; quiet = tt; batch = tt; test = ap (λ (x : Settings). not (x .«allow_oversized»)) (recover-keeps es ps d s .settings); mode = ap (λ (x : Settings). x .strict) (recover-keeps es ps d s .settings) }
+  after (allow ids hierarchy oversized) byte = record { promised = tt; tied = set-tied (withAllowances (d .settings) ids hierarchy oversized); measured = tt; settles = tt; quiet = tt; batch = tt; test = set-test ids hierarchy oversized; mode = refl }
+  after (strictly b) byte = record { promised = tt; tied = set-tied (withStrict (d .settings) b); measured = tt; settles = tt; quiet = tt; batch = tt; test = refl; mode = refl }
+  after (limit n) byte = record { promised = tt; tied = limited n; measured = tt; settles = tt; quiet = tt; batch = tt; test = same-test n; mode = same-mode n }
 
   -- ---- a settled record implies no parent
 
@@ -146,6 +161,7 @@ module _ (es ps : List ℕ) (checked : checkTable es ps ≡ Passed) (d : TagDeco
       go Pass = ap (impliedBy ps) (settled-before (tableOf es ps) d s _ u)
       go (Fail e) = refl
   settled-implies-none (allow ids hierarchy oversized) byte u = refl
+  settled-implies-none (strictly b) byte u = refl
   settled-implies-none (limit n) byte u = refl
 
 -- ---- any calls
@@ -157,6 +173,7 @@ both-true a b x y p q = rw (p, q)
 record Known (es ps : List ℕ) (cs : List Call) : Type 0 where
   tied : Tied (tableOf es ps) (recordAfter es ps cs) (startsOpen (tableOf es ps) (history es ps cs)) (parentsLeft ps (tableOf es ps) (history es ps cs)) (position (history es ps cs))
   settled : recordAfter es ps cs .settled ≡ hasSettled (tableOf es ps) (history es ps cs)
+  mode : recordAfter es ps cs .settings .strict ≡ isStrictAfter (history es ps cs)
 
 module _ (es ps : List ℕ) (checked : checkTable es ps ≡ Passed) (cs : List Call) (k : Known es ps cs) where
   began : recordAfter es ps cs .settled ≡ false → Began (recordAfter es ps cs)
@@ -166,6 +183,13 @@ module _ (es ps : List ℕ) (checked : checkTable es ps ≡ Passed) (cs : List C
       let l = stack-length (tableOf es ps) d _ _ _ (k .tied .linked) w in
       record { unsettled = u; none-waiting = w; none-open = sym l ∙ ap length (k .tied .linked .unsettled u) }
 
+  -- the note of a call is the one that a caller can tell, who knows the mode
+  told-note : recordAfter es ps cs .settled ≡ false → (c : Call)
+      → noteOf es ps (recordAfter es ps cs) c ≡ seenNote (isStrictAfter (history es ps cs)) (tableOf es ps) (lent c) (responseTo es ps (recordAfter es ps cs) c)
+  told-note e c =
+      note-seen es ps (recordAfter es ps cs) (good-shape es ps checked) (k .tied .linked .good) (began e) c
+      ∙ ap (λ (m : Bool). seenNote m (tableOf es ps) (lent c) (responseTo es ps (recordAfter es ps cs) c)) (k .mode)
+
   -- the parents that a call implies are those that a caller can tell
   parents-seen : (c : Call) → Octets (lent c)
       → impliedBy ps (noteOf es ps (recordAfter es ps cs) c) ≡ seenParents ps (tableOf es ps) (history es ps cs) (lent c) (responseTo es ps (recordAfter es ps cs) c)
@@ -174,7 +198,7 @@ module _ (es ps : List ℕ) (checked : checkTable es ps ≡ Passed) (cs : List C
       go : (b : Bool) → recordAfter es ps cs .settled ≡ b
           → impliedBy ps (noteOf es ps (recordAfter es ps cs) c) ≡ seenParents ps (tableOf es ps) (history es ps cs) (lent c) (responseTo es ps (recordAfter es ps cs) c)
       go true e = settled-implies-none es ps checked (recordAfter es ps cs) _ _ _ (k .tied) c byte e ∙ sym (cond-yes _ [] _ (sym (k .settled) ∙ e))
-      go false e = ap (impliedBy ps) (note-seen es ps (recordAfter es ps cs) (good-shape es ps checked) (k .tied .linked .good) (began e) c) ∙ sym (cond-no _ [] _ (sym (k .settled) ∙ e))
+      go false e = ap (impliedBy ps) (told-note e c) ∙ sym (cond-no _ [] _ (sym (k .settled) ∙ e))
 
   -- so what was proved of one call is proved of a call after these
   after-these : (c : Call) → Octets (lent c)
@@ -184,25 +208,26 @@ module _ (es ps : List ℕ) (checked : checkTable es ps ≡ Passed) (cs : List C
       (after es ps checked (recordAfter es ps cs) _ _ _ (k .tied) c byte)
 
   settled-next : (c : Call) → next es ps (recordAfter es ps cs) c .settled
-      ≡ (hasSettled (tableOf es ps) (history es ps cs) || isSettle (seenNote (tableOf es ps) (lent c) (responseTo es ps (recordAfter es ps cs) c)))
+      ≡ (hasSettled (tableOf es ps) (history es ps cs) || isSettle (seenNote (isStrictAfter (history es ps cs)) (tableOf es ps) (lent c) (responseTo es ps (recordAfter es ps cs) c)))
   settled-next c = next-settled es ps (recordAfter es ps cs) c ∙ go (recordAfter es ps cs .settled) refl
     where
       go : (b : Bool) → recordAfter es ps cs .settled ≡ b
           → (recordAfter es ps cs .settled || isSettle (noteOf es ps (recordAfter es ps cs) c))
-          ≡ (hasSettled (tableOf es ps) (history es ps cs) || isSettle (seenNote (tableOf es ps) (lent c) (responseTo es ps (recordAfter es ps cs) c)))
+          ≡ (hasSettled (tableOf es ps) (history es ps cs) || isSettle (seenNote (isStrictAfter (history es ps cs)) (tableOf es ps) (lent c) (responseTo es ps (recordAfter es ps cs) c)))
       go true e =
-          both-true (recordAfter es ps cs .settled) (hasSettled (tableOf es ps) (history es ps cs)) (isSettle (noteOf es ps (recordAfter es ps cs) c)) (isSettle (seenNote (tableOf es ps) (lent c) (responseTo es ps (recordAfter es ps cs) c))) e
+          both-true (recordAfter es ps cs .settled) (hasSettled (tableOf es ps) (history es ps cs)) (isSettle (noteOf es ps (recordAfter es ps cs) c)) (isSettle (seenNote (isStrictAfter (history es ps cs)) (tableOf es ps) (lent c) (responseTo es ps (recordAfter es ps cs) c))) e
           (sym (k .settled) ∙ e)
       go false e =
           ap (λ (b : Bool). b || isSettle (noteOf es ps (recordAfter es ps cs) c)) (k .settled)
-          ∙ ap (λ (x : Note). hasSettled (tableOf es ps) (history es ps cs) || isSettle x) (note-seen es ps (recordAfter es ps cs) (good-shape es ps checked) (k .tied .linked .good) (began e) c)
+          ∙ ap (λ (x : Note). hasSettled (tableOf es ps) (history es ps cs) || isSettle x) (told-note e c)
 
 known : (es ps : List ℕ) → checkTable es ps ≡ Passed → (cs : List Call) → Lent cs → Known es ps cs
-unfolding recordAfter history startsOpen parentsLeft position hasSettled Lent
-known es ps checked [] l = record { tied = fresh-tied (tableOf es ps); settled = refl }
+unfolding recordAfter history startsOpen parentsLeft position hasSettled isStrictAfter Lent
+known es ps checked [] l = record { tied = fresh-tied (tableOf es ps); settled = refl; mode = refl }
 known es ps checked (c ∷ cs) l =
     let k = known es ps checked cs (l .1) in
-    record { tied = after-these es ps checked cs k c (l .0) .tied; settled = settled-next es ps checked cs k c }
+    let a = after-these es ps checked cs k c (l .0) in
+    record { tied = a .tied; settled = settled-next es ps checked cs k c; mode = a .mode ∙ ap (modeAfter c) (k .mode) }
 
 -- after any calls the record is tied to what a caller can tell
 pub tied-after : (es ps : List ℕ) → checkTable es ps ≡ Passed → (cs : List Call) → Lent cs
@@ -217,6 +242,10 @@ parents-after es ps checked cs l c byte = parents-seen es ps checked cs (known e
 -- after any calls the record has settled where a caller can tell so
 pub settled-after : (es ps : List ℕ) → checkTable es ps ≡ Passed → (cs : List Call) → Lent cs → recordAfter es ps cs .settled ≡ hasSettled (tableOf es ps) (history es ps cs)
 settled-after es ps checked cs l = known es ps checked cs l .settled
+
+-- after any calls reading is strict where a caller can tell so
+pub mode-after : (es ps : List ℕ) → checkTable es ps ≡ Passed → (cs : List Call) → Lent cs → recordAfter es ps cs .settings .strict ≡ isStrictAfter (history es ps cs)
+mode-after es ps checked cs l = known es ps checked cs l .mode
 
 -- so the promises hold of the last call
 pub promised-after : (es ps : List ℕ) (cs : List Call) (c : Call) → Runs es ps (c ∷ cs)

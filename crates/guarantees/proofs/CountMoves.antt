@@ -27,7 +27,7 @@ use Rattle.guarantees.specs.Settling.{impliedBy}
 use Rattle.guarantees.specs.History.{Started}
 use Rattle.guarantees.specs.Counts.{childOfFirst, withImplied, countsIn}
 use Rattle.guarantees.proofs.Decided.{NoteFacts}
-use Rattle.guarantees.proofs.Moves.{map-reversed}
+use Rattle.basics.proofs.Maps.{map-reversed}
 use Rattle.guarantees.proofs.Steps.{stack-length, unsettled-waiting}
 use Rattle.guarantees.proofs.Tied.{Linked, map-same}
 

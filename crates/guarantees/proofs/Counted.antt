@@ -2,7 +2,7 @@
 -- carries what came since its Start. Assumes nothing.
 use Prim.Native.Nat.{ℕ, suc, _+_, _*_, _≤_, _<_}
 use mathlib.Core.Path.{_≡_, refl, sym, ap, _∙_, subst}
-use mathlib.Core.Bool.{true}
+use mathlib.Core.Bool.{Bool, true}
 use mathlib.Core.List.{List, [], _∷_, _++_, map, reverse}
 use native.Mathlib.Omega.{arith}
 use lib.ListN.{length, getD, drop, length-map, length-append}
@@ -39,10 +39,10 @@ use Rattle.decoder_rules.proofs.EndExits as end
 use Rattle.decoder_rules.proofs.EndExits.{EndExit, EofExit, eof-exits, ending as atEnd}
 use Rattle.decoder_rules.proofs.FirstPlace.{note-holds, recovery-is-first}
 use Rattle.decoder_rules.proofs.MoveEffects.{opens-length, with-notes-arrays}
-use Rattle.decoder_rules.proofs.MoveLaws.{withNote, decode-stays}
+use Rattle.decoder_rules.proofs.MoveLaws.{withNote}
 use Rattle.decoder_move.specs.Applies.{ActionApplies}
 use Rattle.decoder_move.proofs.DecisionApplies.{decide-applies, hands-out, closes, starts as start-fits}
-use Rattle.guarantees.specs.Calls.{Call, decoding, ending, recovering, allow, limit, lent, Response, answered, searched, silent, responseTo, next, recordAfter, history, Lent}
+use Rattle.guarantees.specs.Calls.{Call, decoding, ending, recovering, allow, strictly, limit, lent, Response, answered, searched, silent, responseTo, next, recordAfter, history, Lent}
 use Rattle.guarantees.specs.Settling.{impliedBy, seenParents}
 use Rattle.guarantees.specs.History.{Started, parentsLeft, takenIn, position}
 use Rattle.guarantees.specs.Promises.{Runs, lastResponse, Answers, openAt, leftAt, positionAt, EndMatches}
@@ -53,7 +53,7 @@ use Rattle.guarantees.proofs.EmptyPlaces.{Tidy, on-tidy, tidy-after}
 use Rattle.guarantees.proofs.Guarantees.{end-matches}
 use Rattle.guarantees.proofs.ImpliedFirst.{implied-first}
 use Rattle.guarantees.proofs.Notes.{searchNoteOr, noteOf}
-use Rattle.guarantees.proofs.Steps.{MeasuredEvent, with-note-tied, decode-called, quiet-no-event, quiet-waits}
+use Rattle.guarantees.proofs.Steps.{MeasuredEvent, with-note-tied, quiet-none-waits}
 use Rattle.guarantees.proofs.Tied.{asStarted, parentOf, asEnd, named, Linked, Tied}
 use Rattle.guarantees.proofs.CountMoves.{tagCount, endCount, handed-counts, closed-counts, counted-counts, opened-counts, none-yet, grown-counts, noted-counts}
 use Rattle.guarantees.proofs.CountsLookedUp.{LookedUp, told-looked, implied-looked}
@@ -135,10 +135,7 @@ module _ (es ps : List ℕ) (shape : goodShape es ps ≡ true) (passed : PassedT
     exit-counts : {r : Decoded} → EofExit es ps d s r → CountsAs r
     exit-counts (end.as-decoded q) = decode-counts
     exit-counts (end.at-end {r} q x) =
-        let called = decode-called es ps shape passed d s byte starts left p k in
-        let none : withNote es ps d s .«waiting_count» ≡ 0 =
-        subst (λ (e : TagDecoder). e .«waiting_count» ≡ 0) (decode-stays es ps d s (quiet-no-event (decode es ps d s .answer) q) .same)
-        (quiet-waits (decode es ps d s .answer) (decode es ps d s .taken) (decode es ps d s .state) (called .quiet) q) in
+        let none = quiet-none-waits es ps shape passed d s byte starts left p k q in
         subst (λ (l : List ℕ). Counts l (r .answer) (r .state)) with-note-counts (ended-counts (tableOf es ps) (withNote es ps d s) s with-note-linked none x)
 
   standing-counts : (x : Standing) (n : ℕ) (e : TagDecoder) → Tidy e → countsIn (recoveredAt x n e .state) ≡ countsIn e
@@ -194,6 +191,7 @@ next-counts es ps checked d k y (ending s) byte =
 next-counts es ps checked d k y (recovering s) byte =
     record { told = tt; left = recovered-counts es ps (good-shape es ps checked) (passed-gives es ps checked) d k y s }
 next-counts es ps checked d k y (allow ids hierarchy oversized) byte = record { told = tt; left = refl }
+next-counts es ps checked d k y (strictly b) byte = record { told = tt; left = refl }
 next-counts es ps checked d k y (limit n) byte = record { told = tt; left = limited-counts d n }
 
 module _ (es ps : List ℕ) (checked : checkTable es ps ≡ Passed) where
@@ -288,15 +286,15 @@ unfolding total
 less-total [] = omega arith
 less-total (n ∷ l) = omega arith
 
-module _ (t : List Entry) (s : List ℕ) (byte : Octets s) (p : ℕ) (l : List ℕ) (half : 2 * total l ≤ p) where
-  event-half : (e : Event) (n : ℕ) → MeasuredEvent t s p e n → 2 * total (countsByEvent e l) ≤ p + n
+module _ (strict : Bool) (t : List Entry) (s : List ℕ) (byte : Octets s) (p : ℕ) (l : List ℕ) (half : 2 * total l ≤ p) where
+  event-half : (e : Event) (n : ℕ) → MeasuredEvent strict t s p e n → 2 * total (countsByEvent e l) ≤ p + n
   unfolding total
   event-half (event.Start x o) n m = omega (arith, child-total l, m .no-more, header-long (header-sound t s (m .its) byte (m .read)))
   event-half (event.End end) n m = omega (arith, less-total l)
   event-half (event.Data x o v) n m = omega (arith, child-total l, m .count, header-long (header-sound t s (m .its) byte (m .read)))
 
   -- each element takes at least two bytes
-  response-half : (x : Response) → MeasuredResponse t s p x → 2 * total (countsBy x l) ≤ p + takenIn x
+  response-half : (x : Response) → MeasuredResponse strict t s p x → 2 * total (countsBy x l) ≤ p + takenIn x
   response-half (answered (answer.Event e) n) m = event-half e n m
   response-half (answered (answer.NeedMore missing) n) m = omega arith
   response-half (answered answer.Finished n) m = omega arith
@@ -312,7 +310,7 @@ module _ (es ps : List ℕ) (checked : checkTable es ps ≡ Passed) where
       let before = childCounts ps (tableOf es ps) (history es ps cs) in
       let parents = seenParents ps (tableOf es ps) (history es ps cs) (lent c) (lastResponse es ps cs c) in
       let half : 2 * total (withImplied parents before) ≤ positionAt es ps cs = omega (arith, implied-total parents before, at-most-half cs (l .1)) in
-      response-half (tableOf es ps) (lent c) (l .0) (positionAt es ps cs) (withImplied parents before) half (lastResponse es ps cs c) (promised-after es ps cs c (record { checked = checked; octets = l }) .measured)
+      response-half _ (tableOf es ps) (lent c) (l .0) (positionAt es ps cs) (withImplied parents before) half (lastResponse es ps cs c) (promised-after es ps cs c (record { checked = checked; octets = l }) .measured)
 
   -- the statement
   pub child-counts : ChildCounts es ps

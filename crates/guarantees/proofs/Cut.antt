@@ -115,7 +115,7 @@ module _ (es ps : List ℕ) (shape : goodShape es ps ≡ true) (d : TagDecoder) 
   exit-only (exit.no-byte n y) = refl
   exit-only (exit.header-incomplete at e) = refl
   exit-only (exit.header-refused x at e) = absurd (omega (arith, at .some-byte))
-  exit-only (exit.unknown-id h at f) = absurd (omega (arith, at .at-bytes .some-byte))
+  exit-only (exit.id-refused h at f) = absurd (omega (arith, at .at-bytes .some-byte))
   exit-only (exit.on-header h at f x) = absurd (omega (arith, at .at-bytes .some-byte))
 
 -- where no event is left it answers 23 or an End, unless it finishes

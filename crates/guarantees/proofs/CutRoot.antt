@@ -27,7 +27,7 @@ use Rattle.decoder_rules.specs.declared.types.Search.{Search}
 use Rattle.decoder_rules.specs.declared.types.WaitingEnd.{WaitingEnd}
 use Rattle.decoder_rules.proofs.MoveLaws.{decode-finished}
 use Rattle.decoder_rules.proofs.EndExits.{eof-exits}
-use Rattle.guarantees.specs.Calls.{Call, decoding, ending, recovering, allow, limit, lent, Response, answered, searched, silent, next, recordAfter, history, Lent}
+use Rattle.guarantees.specs.Calls.{Call, decoding, ending, recovering, allow, strictly, limit, lent, Response, answered, searched, silent, next, recordAfter, history, Lent}
 use Rattle.guarantees.specs.History.{Started, declaredEnd, headerEnd, endAfter, afterResponse, takenIn, outermostEnd, startsOpen, position}
 use Rattle.guarantees.specs.Promises.{valueKind, Runs, lastResponse, Answers, openAt, leftAt, positionAt}
 use Rattle.guarantees.specs.CutRecords.{LendsNext, InOrder, BeginsWithMaster}
@@ -131,6 +131,7 @@ module _ (es ps s rest : List ℕ) (f : ℕ) (w : BeginsWithMaster (tableOf es p
       go (inside q) = cut-not-finished es ps cs b run (outermost-member (openAt es ps cs) f (positionAt es ps cs) q (omega (arith, k .within-s, cut))) .1
   still-unfinished (recovering b) cs run lies k = absurd lies
   still-unfinished (allow ids hierarchy oversized) cs run lies k = k .unfinished
+  still-unfinished (strictly b) cs run lies k = k .unfinished
   still-unfinished (limit n) cs run lies k = limit-keeps-finished (recordAfter es ps cs) n ∙ k .unfinished
 
   step : (c : Call) (cs : List Call) → Runs es ps (c ∷ cs) → LendsNext s (positionAt es ps cs) c → Reading cs → Reading (c ∷ cs)

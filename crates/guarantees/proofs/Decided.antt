@@ -2,7 +2,7 @@
 -- the note, what the promises need. Assumes nothing.
 use Prim.Native.Nat.{ℕ, _+_, _^_, _≤_, _<_}
 use mathlib.Core.Path.{_≡_, refl, sym, ap, _∙_, subst}
-use mathlib.Core.Bool.{Bool, true, false, not, _&&_, _||_, true≢false, false≢true}
+use mathlib.Core.Bool.{Bool, true, false, cond, not, _&&_, _||_, true≢false, false≢true}
 use mathlib.Core.List.{List, [], _∷_, map, List·Memᴰ·head, List·Memᴰ·tail}
 use native.Mathlib.Omega.{arith}
 use borrow.Author.Tests.{leb-false}
@@ -28,7 +28,7 @@ use Rattle.table.proofs.Consequences.{master-of-ids, path-masters}
 use Rattle.spec_util.specs.declared.types.OpenTag.{OpenTag}
 use Rattle.tag_parse.proofs.Headers.{header-sound, header-long, header-spec, known-small}
 use Rattle.tag_parse.specs.Header.{readHeader}
-use Rattle.tag_parse.specs.Payload.{valueOf, floatOr21}
+use Rattle.tag_parse.specs.Payload.{textOf, textValue, valueOf, floatOr21}
 use Rattle.tag_parse.specs.declared.types.EBMLSize.{EBMLSize}
 use Rattle.tag_parse.specs.declared.types.EBMLSize.the-variants.{Known, Unknown}
 use Rattle.tag_parse.specs.declared.types.ParseError.{ParseError}
@@ -41,7 +41,7 @@ use Rattle.tag_parse.specs.declared.types.TagHeader.{TagHeader}
 use Rattle.tag_parse.specs.declared.types.TagValue.{TagValue}
 use Rattle.decoder_rules.specs.Record.{opens, implied}
 use Rattle.decoder_rules.specs.Numbers.{errorNumber, parseError}
-use Rattle.decoder_rules.specs.OneCall.{check10to12, checkRecord10to12, step3, settles, step7, isSettle, noted, reaches, step10}
+use Rattle.decoder_rules.specs.OneCall.{check10to12, checkRecord10to12, step3, goodForm, refusal6, settles, step7, isSettle, noted, reaches, fitsInside, step10}
 use Rattle.decoder_rules.specs.Deciding.{plain, decide}
 use Rattle.decoder_rules.specs.declared.types.Action.{Action}
 use Rattle.decoder_rules.specs.declared.types.Action.the-variants as act
@@ -99,6 +99,11 @@ Other n = (n ≡ 10 → ⊥) × (n ≡ 11 → ⊥) × (n ≡ 23 → ⊥) × (n �
 pub mild : (d : TagDecoder) (e : DecodeError) → Other (errorNumber e) → Mild d e
 mild d e o = record { not-10 = o .0; not-11 = o .1; not-23 = o .2; not-24 = o .3; at-19 = λ q. absurd (o .4 q) }
 
+-- a refusal of an ID may come of any record
+pub id-mild : (d : TagDecoder) (b : Bool) → Mild d (cond b error.InvalidTagId error.InvalidIdForm)
+id-mild d true = mild d error.InvalidTagId (omega arith)
+id-mild d false = mild d error.InvalidIdForm (omega arith)
+
 -- a refusal of a header or of a payload may come of any record
 pub parse-mild : (d : TagDecoder) (e : ParseError) → Mild d (parseError e)
 parse-mild d parse.InvalidTagData = mild d error.InvalidTagData (omega arith)
@@ -116,16 +121,23 @@ float-kind : (r : ArrToF64) → OfKind type.Float (floatOr21 r)
 float-kind (float.Bits x) = refl
 float-kind (float.Refused x) = tt
 
+one-text-kind : (s : List ℕ) (r : Range) → OfKind type.Utf8 (textOf s r)
+one-text-kind s r = pick (OfKind type.Utf8) (isText s) _ _ (λ e. refl) (λ e. tt)
+
+text-kind : (strict : Bool) (s : List ℕ) (r : Range) → OfKind type.Utf8 (textValue strict s r)
+text-kind true s r = one-text-kind _ _
+text-kind false s r = one-text-kind s r
+
 -- a Master has no payload
-data-kind : (k : TagDataType) (s : List ℕ) (r : Range) → isMaster k ≡ false → OfKind k (valueOf k s r)
+data-kind : (strict : Bool) (k : TagDataType) (s : List ℕ) (r : Range) → isMaster k ≡ false → OfKind k (valueOf strict k s r)
 unfolding valueOf isMaster
-data-kind type.UnsignedInt s r n = refl
-data-kind type.Integer s r n = refl
-data-kind type.Utf8 s r n = pick (OfKind type.Utf8) (isText s) _ _ (λ e. refl) (λ e. tt)
-data-kind type.Binary s r n = refl
-data-kind type.Float s r n = pick (OfKind type.Float) (eqb (length s) 0) _ _ (λ e. refl) (λ e. float-kind (arrToF64 s))
-data-kind type.Master s r n = absurd (true≢false n)
-data-kind type.Untyped s r n = refl
+data-kind strict type.UnsignedInt s r n = refl
+data-kind strict type.Integer s r n = refl
+data-kind strict type.Utf8 s r n = text-kind strict s r
+data-kind strict type.Binary s r n = refl
+data-kind strict type.Float s r n = pick (OfKind type.Float) (eqb (length s) 0) _ _ (λ e. refl) (λ e. float-kind (arrToF64 s))
+data-kind strict type.Master s r n = absurd (true≢false n)
+data-kind strict type.Untyped s r n = refl
 
 -- ---- what was decided
 
@@ -171,15 +183,23 @@ pub record Holds (t : List Entry) (d : TagDecoder) (s : List ℕ) (x : ℕ) (v :
   pub heads : Heads t s x
   pub reading : Reading d
   pub kind : valueKind v ≡ dataTypeOf t x
-  pub whole : WholeData t s (d .position) n v
+  pub whole : WholeData (d .settings .strict) t s (d .position) n v
+  -- an element whose path is all IDs settles
+  pub settled : (isTyped (dataTypeOf t x) && onlyIds (pathOf t x)) ≡ true → d .settled ≡ true
   pub some : 0 < n
   pub end : declaredEnd t (d .position) s ≡ Number (d .position + n)
   pub inside : Inside d (d .position + n)
 
+-- why all above the first n close: by the position (3), or by the ID of the header at the front of the bytes (10)
+pub data ClosesFor (t : List Entry) (d : TagDecoder) (s : List ℕ) (n : ℕ) : Type 0 where
+  by-position : step3 d ≡ n → ClosesFor t d s n
+  by-next-id : (h : TagHeader) → readHeader t s ≡ header.Header h → step10 t d (h .id) ≡ n → ClosesFor t d s n
+
 -- what holds where the closing of all above the first n was decided
-pub record Closes (d : TagDecoder) (n : ℕ) : Type 0 where
+pub record Closes (t : List Entry) (d : TagDecoder) (s : List ℕ) (n : ℕ) : Type 0 where
   pub reading : Reading d
   pub batch : FullBatch d n
+  pub why : ClosesFor t d s n
 
 -- d has the note
 abbrev pub Facts : List Entry → TagDecoder → List ℕ → Action → Type 0
@@ -187,7 +207,7 @@ Facts t d s (act.Refuse e) = Mild d e
 Facts t d s (act.NeedMore missing) = Reading d
 Facts t d s act.Finish = (d .«waiting_count» ≡ 0) × (d .finished ≡ true)
 Facts t d s act.HandOut = Unit {0}
-Facts t d s (act.Close k) = Closes d k
+Facts t d s (act.Close k) = Closes t d s k
 Facts t d s (act.Start x z len) = Starts t d s x z len
 Facts t d s (act.Data x v n) = Holds t d s x v n
 
@@ -198,9 +218,9 @@ pub no-fault : (t : List Entry) (k : ℕ) (l : List OpenTag) → allMasters t l 
 no-fault t k l m e = true≢false (sym (every-drop (λ m. isMaster (dataTypeOf t (m .id))) k l m) ∙ e)
 
 module _ (t : List Entry) (d : TagDecoder) (s : List ℕ) (reading : Reading d) (masters : allMasters t (opens d) ≡ true) where
-  closing-facts : (k : ℕ) {a : Action} → FullBatch d k → Closing t d k a → Facts t d s a
-  closing-facts k batch (exit.closes e) = record { reading = reading; batch = batch }
-  closing-facts k batch (exit.no-master e) = absurd (no-fault t k (opens d) masters e)
+  closing-facts : (k : ℕ) {a : Action} → FullBatch d k → ClosesFor t d s k → Closing t d k a → Facts t d s a
+  closing-facts k batch why (exit.closes e) = record { reading = reading; batch = batch; why = why }
+  closing-facts k batch why (exit.no-master e) = absurd (no-fault t k (opens d) masters e)
 
 -- ---- 8 to 11, of a header that was read; d has the note
 
@@ -218,7 +238,7 @@ module _ (t : List Entry) (d : TagDecoder) (s : List ℕ) (byte : Octets s) (h :
 
   inside-size : Valid t d h → (z : EBMLSize) → h .size ≡ z → InsideSize d (h .len) z
   inside-size v Unknown e = tt
-  inside-size v (Known n) e = λ off. or-off (d .settings .«allow_oversized») _ (valid-fits t d h n v e) off
+  inside-size v (Known n) e = λ off. unfold fitsInside in or-off (d .settings .«allow_oversized») _ (valid-fits t d h n v e) off
 
   small-size : (z : EBMLSize) → h .size ≡ z → Small z
   small-size Unknown e = tt
@@ -238,15 +258,16 @@ module _ (t : List Entry) (d : TagDecoder) (s : List ℕ) (byte : Octets s) (h :
       inside = inside-size v (h .size) refl;
     }
 
-    data-facts : (n : ℕ) (v : TagValue) → HasPayload t d h n → h .len + n ≤ length s → payloadOf d h n s ≡ payload.Value v → Holds t d s (h .id) v (h .len + n)
-    data-facts n v has l e =
+    data-facts : ((isTyped (h .kind) && onlyIds (pathOf t (h .id))) ≡ true → d .settled ≡ true) → (n : ℕ) (v : TagValue) → HasPayload t d h n → h .len + n ≤ length s → payloadOf d h n s ≡ payload.Value v → Holds t d s (h .id) v (h .len + n)
+    data-facts settles n v has l e =
         let a : d .position + h .len + n ≡ d .position + (h .len + n) = omega arith in
-        let k : valueKind v ≡ h .kind = subst (OfKind (h .kind)) e (data-kind (h .kind) _ _ (has .no-master)) in
+        let k : valueKind v ≡ h .kind = subst (OfKind (h .kind)) e (data-kind _ (h .kind) _ _ (has .no-master)) in
         record {
           heads = its-head;
           reading = reading;
           kind = k ∙ header-spec t s h is .kind;
           whole = record { its = h; read = is; size = n; known = has .known; count = refl; within = l; value = e };
+          settled = λ q. settles (ap (λ (k : TagDataType). isTyped k && onlyIds (pathOf t (h .id))) (header-spec t s h is .kind) ∙ q);
           some = omega (arith, header-long (header-sound t s h byte is));
           end = end-is ∙ ap (endAfter (d .position + h .len)) (has .known) ∙ ap Number a;
           inside = inside-size (has .at .valid) (Known n) (has .known);
@@ -255,18 +276,20 @@ module _ (t : List Entry) (d : TagDecoder) (s : List ℕ) (byte : Octets s) (h :
     full-19 : 32 ≤ d .«open_count» → Mild d error.TooManyOpen
     full-19 l = record { not-10 = omega arith; not-11 = omega arith; not-23 = omega arith; not-24 = omega arith; at-19 = λ q. (reading .none-waiting, l) }
 
-    module _ (masters : allMasters t (opens d) ≡ true) (count : length (opens d) ≡ d .«open_count») (settled : isMaster (h .kind) ≡ true → d .settled ≡ true) where
+    module _ (masters : allMasters t (opens d) ≡ true) (count : length (opens d) ≡ d .«open_count») (settled : isMaster (h .kind) ≡ true → d .settled ≡ true)
+        (settles : (isTyped (h .kind) && onlyIds (pathOf t (h .id))) ≡ true → d .settled ≡ true) where
       header-facts : {a : Action} → HeaderExit t d h s a → Facts t d s a
       header-facts (exit.misplaced p) = mild d error.HierarchyError (omega arith)
       header-facts (exit.oversized n p e f) = mild d error.OversizedChildElement (omega arith)
       header-facts (exit.too-large n p e f g) = mild d error.InvalidTagSize (omega arith)
-      header-facts (exit.ends-tops v l c) = closing-facts t d s reading masters (step10 t d (h .id)) (step10-batch t d (h .id) count l) c
+      header-facts (exit.past-end p e f g) = mild d error.UnknownSizePastEnd (omega arith)
+      header-facts (exit.ends-tops v l c) = closing-facts t d s reading masters (step10 t d (h .id)) (step10-batch t d (h .id) count l) (by-next-id h is refl) c
       header-facts (exit.too-many at k l) = full-19 l
       header-facts (exit.starts at k l) = start-facts (at .valid) k (settled k)
       header-facts (exit.no-size at k e) = mild d error.InvalidTagData (omega arith)
       header-facts (exit.payload-incomplete n has l) = reading
       header-facts (exit.payload-refused n x has l e) = parse-mild d x
-      header-facts (exit.holds n v has l e) = data-facts n v has l e
+      header-facts (exit.holds n v has l e) = data-facts settles n v has l e
 
 -- ---- 7: the note
 
@@ -306,23 +329,23 @@ module _ (es ps : List ℕ) (shape : goodShape es ps ≡ true) (passed : PassedT
       })
       (λ e. tt)
 
-  -- a Master starts only once settled: its path holds IDs only (rule 33)
-  master-settles : (d : TagDecoder) → isMaster (h .kind) ≡ true → noted ps d (step7 (tableOf es ps) d h) .settled ≡ true
-  unfolding isTyped
-  master-settles d k = noted-settled ps d (step7 (tableOf es ps) d h) ∙ go (d .settled) refl
+  -- an element whose path is all IDs is read only once settled
+  element-settles : (d : TagDecoder) → (isTyped (h .kind) && onlyIds (pathOf (tableOf es ps) (h .id))) ≡ true → noted ps d (step7 (tableOf es ps) d h) .settled ≡ true
+  element-settles d q = noted-settled ps d (step7 (tableOf es ps) d h) ∙ go (d .settled) refl
     where
-      kind : h .kind ≡ type.Master
-      kind = master-is (h .kind) k
-
-      ids : onlyIds (pathOf (tableOf es ps) (h .id)) ≡ true
-      ids = master-of-ids (tableOf es ps) passed (h .id) (sym (header-spec (tableOf es ps) s h is .kind) ∙ kind)
-
-      typed : isTyped (h .kind) ≡ true
-      typed = rw kind
-
       go : (b : Bool) → d .settled ≡ b → (b || isSettle (step7 (tableOf es ps) d h)) ≡ true
       go true e = refl
-      go false e = ap isSettle (cond-yes (settles (tableOf es ps) d h) (Settle (h .path)) NoNote (all-three _ _ _ e typed ids))
+      go false e =
+          let k = both (isTyped (h .kind)) (onlyIds (pathOf (tableOf es ps) (h .id))) q in
+          ap isSettle (cond-yes (settles (tableOf es ps) d h) (Settle (h .path)) NoNote (all-three _ _ _ e (k .left) (k .right)))
+
+  -- so is a Master: its path holds IDs only (rule 33)
+  master-settles : (d : TagDecoder) → isMaster (h .kind) ≡ true → noted ps d (step7 (tableOf es ps) d h) .settled ≡ true
+  unfolding isTyped
+  master-settles d k =
+      let kind : h .kind ≡ type.Master = master-is (h .kind) k in
+      let typed : isTyped (h .kind) ≡ true = rw kind in
+      element-settles d (and-both typed (master-of-ids (tableOf es ps) passed (h .id) (sym (header-spec (tableOf es ps) s h is .kind) ∙ kind)))
 
 -- the note keeps what the promises need
 noted-reading : (ps : List ℕ) (d : TagDecoder) (n : Note) → Reading d → Reading (noted ps d n)
@@ -384,11 +407,11 @@ module _ (es ps : List ℕ) (shape : goodShape es ps ≡ true) (passed : PassedT
   exit-facts (exit.after-finish e f l) = plain-facts (act.Refuse error.AfterFinish) (mild d error.AfterFinish (omega arith))
   exit-facts (exit.hands-out ok w) = plain-facts act.HandOut tt
   exit-facts (exit.finished ok w f) = plain-facts act.Finish (w, f)
-  exit-facts (exit.closes-full r l c) = plain-facts _ (closing-facts (tableOf es ps) d s (reading-by r) masters (step3 d) (step3-batch d count l) c)
+  exit-facts (exit.closes-full r l c) = plain-facts _ (closing-facts (tableOf es ps) d s (reading-by r) masters (step3 d) (step3-batch d count l) (by-position refl) c)
   exit-facts (exit.no-byte n z) = more-facts n
   exit-facts (exit.header-incomplete at e) = more-facts (at .none-full)
   exit-facts (exit.header-refused x at e) = plain-facts (act.Refuse (parseError x)) (parse-mild d x)
-  exit-facts (exit.unknown-id h at f) = plain-facts (act.Refuse error.InvalidTagId) (mild d error.InvalidTagId (omega arith))
+  exit-facts (exit.id-refused h at f) = plain-facts (act.Refuse (refusal6 d h)) (id-mild d (goodForm (d .settings .strict) (h .id)))
   exit-facts (exit.on-header h at f x) =
       let t = tableOf es ps in
       let n = step7 t d h in
@@ -397,7 +420,8 @@ module _ (es ps : List ℕ) (shape : goodShape es ps ≡ true) (passed : PassedT
       let reading = noted-reading ps d n (reading-by (at .at-bytes .none-full .reading)) in
       record {
         note = note;
-        action = header-facts t e s byte h (at .read) reading (noted-masters ps t d n note masters) (noted-count ps d n count) (master-settles es ps shape passed s h (at .read) d) x;
+        action = header-facts t e s byte h (at .read) reading (noted-masters ps t d n note masters) (noted-count ps d n count) (master-settles es ps shape passed s h (at .read) d)
+            (element-settles es ps shape passed s h (at .read) d) x;
       }
 
   -- of the decision of any call on a good record with a checked table: what the promises need

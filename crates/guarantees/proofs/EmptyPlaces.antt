@@ -42,7 +42,7 @@ use Rattle.decoder_rules.proofs.MoveLaws.{withNote}
 use Rattle.decoder_move.specs.Applies.{NoteApplies, ActionApplies}
 use Rattle.decoder_move.proofs.DecisionApplies.{decide-applies, note-none}
 use Rattle.tag_decoder.proofs.Recovering.{step7-applies}
-use Rattle.guarantees.specs.Calls.{Call, decoding, ending, recovering, allow, limit, lent, next, recordAfter, Lent}
+use Rattle.guarantees.specs.Calls.{Call, decoding, ending, recovering, allow, strictly, limit, lent, next, recordAfter, Lent}
 
 -- a record whose empty places are zero: it has its places, and its counts are at most 32
 pub record Tidy (d : TagDecoder) : Type 0 where
@@ -202,6 +202,7 @@ next-tidy es ps d k (decoding s) byte = decode-tidy es ps d k s byte
 next-tidy es ps d k (ending s) byte = exit-tidy es ps d k s byte (eof-exits es ps d s)
 next-tidy es ps d k (recovering s) byte = recover-tidy es ps d k s
 next-tidy es ps d k (allow ids hierarchy oversized) byte = settings-tidy d k _
+next-tidy es ps d k (strictly b) byte = settings-tidy d k _
 next-tidy es ps d k (limit n) byte = limited-tidy d k n
 
 -- the record after any calls has its places, counts of at most 32, and zero in each empty place

@@ -7,19 +7,20 @@ use mathlib.Core.List.{List, [], _∷_, reverse, reverse-append, reverse-reverse
 use native.Mathlib.Numerals.{add-one}
 use native.Mathlib.Omega.{arith}
 use lib.Dec.{leb}
-use lib.ListN.{length, take, drop, length-drop, length-reverse, take-append-drop}
-use lib.Seq.{take-at}
+use lib.ListN.{length, getD, take, drop, length-drop, length-reverse, take-append-drop}
+use lib.Seq.{take-at, drop-cons}
 use Rattle.basics.specs.Lists.{every, firstIndex}
 use Rattle.table.specs.Table.{Entry}
-use Rattle.spec_util.specs.Ended.{isEndedBy}
+use Rattle.spec_util.specs.Ended.{isEndedIn}
+use Rattle.spec_util.specs.Walk.{noTag, unknownAndEnded, endedTops}
 use Rattle.spec_util.specs.declared.types.OpenTag.{OpenTag}
 use Rattle.decoder_rules.specs.Record.{opens, endOf}
-use Rattle.decoder_rules.specs.OneCall.{isFull, step3, endedTops, step10}
+use Rattle.decoder_rules.specs.OneCall.{isFull, step3, step10}
 use Rattle.decoder_rules.specs.declared.types.Optional.{Optional}
 use Rattle.decoder_rules.specs.declared.types.Optional.the-variants.{Nothing, Number}
 use Rattle.decoder_rules.specs.declared.types.TagDecoder.{TagDecoder}
 use Rattle.basics.proofs.Bools.{and-both, both}
-use Rattle.basics.proofs.Every.{every-reversed}
+use Rattle.basics.proofs.Every.{every-other, every-reversed}
 use Rattle.guarantees.specs.History.{firstEnd}
 
 -- an end, if it is known
@@ -56,16 +57,23 @@ done-known : (b : Bool) (p e : ℕ) (g : Optional) → (b && leb e p) ≡ true �
 done-known true p e g h = h
 done-known false p e g h = absurd (false≢true h)
 
-first-full : (p : ℕ) (l : List OpenTag) → firstIndex (isFull p) l < length l → endedBy p (firstKnown (drop (firstIndex (isFull p) l) l)) ≡ true
-unfolding firstIndex firstKnown isFull
-first-full p [] h = absurd (omega arith)
-first-full p (m ∷ l) h = go (m .known && leb (endOf m) p) refl h (λ g. first-full p l g)
+-- the first that passes a test does
+pub first-passes : (test : OpenTag → Bool) (l : List OpenTag) (z : OpenTag) → firstIndex test l < length l → test (getD l (firstIndex test l) z) ≡ true
+unfolding firstIndex
+first-passes test [] z h = absurd (omega arith)
+first-passes test (m ∷ l) z h = go (test m) refl h (λ g. first-passes test l z g)
   where
-    go : (b : Bool) → (m .known && leb (endOf m) p) ≡ b → cond b 0 (firstIndex (isFull p) l + 1) < suc (length l)
-        → (firstIndex (isFull p) l < length l → endedBy p (firstKnown (drop (firstIndex (isFull p) l) l)) ≡ true)
-        → endedBy p (firstKnown (drop (cond b 0 (firstIndex (isFull p) l + 1)) (m ∷ l))) ≡ true
-    go true e h rest = done-known (m .known) p (endOf m) (firstKnown l) e
+    go : (b : Bool) → test m ≡ b → cond b 0 (firstIndex test l + 1) < suc (length l) → (firstIndex test l < length l → test (getD l (firstIndex test l) z) ≡ true)
+        → test (getD (m ∷ l) (cond b 0 (firstIndex test l + 1)) z) ≡ true
+    go true e h rest = e
     go false e h rest = rw add-one (rest (omega arith))
+
+first-full : (p : ℕ) (l : List OpenTag) → firstIndex (isFull p) l < length l → endedBy p (firstKnown (drop (firstIndex (isFull p) l) l)) ≡ true
+unfolding firstKnown isFull
+first-full p l h =
+    let i = firstIndex (isFull p) l in
+    let m = getD l i noTag in
+    rw (drop-cons l i noTag h) (done-known (m .known) p (endOf m) (firstKnown (drop (suc i) l)) (first-passes (isFull p) l noTag h))
 
 -- what closes by position
 pub step3-batch : (d : TagDecoder) → length (opens d) ≡ d .«open_count» → step3 d < d .«open_count» → FullBatch d (step3 d)
@@ -86,31 +94,38 @@ unknown-first p (m ∷ l) h = let b = both (unknown m) (every unknown l) h in go
     go true e r = absurd (false≢true e)
     go false e r = r
 
-tops-unknown : (t : List Entry) (x : ℕ) (l : List OpenTag) → every unknown (take (endedTops t x l) l) ≡ true
+-- each that closes by the ID is of unknown size and ended by it
+pub tops-ended : (strict : Bool) (t : List Entry) (x : ℕ) (l : List OpenTag) → every (λ m. unknownAndEnded strict t (m .known) (m .id) x) (take (endedTops strict t x l) l) ≡ true
 unfolding endedTops every
-tops-unknown t x [] = refl
-tops-unknown t x (m ∷ l) = go (not (m .known)) refl (isEndedBy t (m .id) x) (tops-unknown t x l)
+tops-ended strict t x [] = refl
+tops-ended strict t x (m ∷ l) = go (unknownAndEnded strict t (m .known) (m .id) x) refl (tops-ended strict t x l)
   where
-    go : (a : Bool) → not (m .known) ≡ a → (b : Bool) → every unknown (take (endedTops t x l) l) ≡ true → every unknown (take (cond (a && b) (endedTops t x l + 1) 0) (m ∷ l)) ≡ true
-    go true e true r = rw add-one (and-both e r)
-    go true e false r = refl
-    go false e b r = refl
+    go : (b : Bool) → unknownAndEnded strict t (m .known) (m .id) x ≡ b → every (λ m. unknownAndEnded strict t (m .known) (m .id) x) (take (endedTops strict t x l) l) ≡ true
+        → every (λ m. unknownAndEnded strict t (m .known) (m .id) x) (take (cond b (endedTops strict t x l + 1) 0) (m ∷ l)) ≡ true
+    go true e r = rw add-one (and-both e r)
+    go false e r = refl
 
-tops-few : (t : List Entry) (x : ℕ) (l : List OpenTag) → endedTops t x l ≤ length l
+tops-unknown : (strict : Bool) (t : List Entry) (x : ℕ) (l : List OpenTag) → every unknown (take (endedTops strict t x l) l) ≡ true
+unfolding unknownAndEnded
+tops-unknown strict t x l =
+    every-other (λ m. unknownAndEnded strict t (m .known) (m .id) x) unknown (λ m e. both (unknown m) (isEndedIn strict t (m .id) x) e .left) (take (endedTops strict t x l) l) (tops-ended strict t x l)
+
+tops-few : (strict : Bool) (t : List Entry) (x : ℕ) (l : List OpenTag) → endedTops strict t x l ≤ length l
 unfolding endedTops
-tops-few t x [] = omega arith
-tops-few t x (m ∷ l) = go (not (m .known) && isEndedBy t (m .id) x) (tops-few t x l)
+tops-few strict t x [] = omega arith
+tops-few strict t x (m ∷ l) = go (unknownAndEnded strict t (m .known) (m .id) x) (tops-few strict t x l)
   where
-    go : (b : Bool) → endedTops t x l ≤ length l → cond b (endedTops t x l + 1) 0 ≤ suc (length l)
+    go : (b : Bool) → endedTops strict t x l ≤ length l → cond b (endedTops strict t x l + 1) 0 ≤ suc (length l)
     go true r = omega arith
     go false r = omega arith
 
 -- what closes by the next ID
 pub step10-batch : (t : List Entry) (d : TagDecoder) (x : ℕ) → length (opens d) ≡ d .«open_count» → step10 t d x < d .«open_count» → FullBatch d (step10 t d x)
 step10-batch t d x n h =
-    let j = endedTops t x (reverse (opens d)) in
-    let e : length (opens d) - step10 t d x ≡ j = omega (arith, tops-few t x (reverse (opens d)), length-reverse (opens d)) in
+    let strict = d .settings .strict in
+    let j = endedTops strict t x (reverse (opens d)) in
+    let e : length (opens d) - step10 t d x ≡ j = omega (arith, tops-few strict t x (reverse (opens d)), length-reverse (opens d)) in
     let r : take j (reverse (opens d)) ≡ reverse (drop (step10 t d x) (opens d)) = ap (λ (i : ℕ). take i (reverse (opens d))) (sym e) ∙ take-reversed (opens d) (step10 t d x) in
     unknown-first (d .position) (drop (step10 t d x) (opens d))
     (subst (λ (l : List OpenTag). every unknown l ≡ true) (ap reverse r ∙ reverse-reverse (drop (step10 t d x) (opens d)))
-    (every-reversed unknown (take j (reverse (opens d))) (tops-unknown t x (reverse (opens d)))))
+    (every-reversed unknown (take j (reverse (opens d))) (tops-unknown strict t x (reverse (opens d)))))

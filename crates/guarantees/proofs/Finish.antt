@@ -29,7 +29,7 @@ use Rattle.decoder_rules.proofs.EndExits as end
 use Rattle.decoder_rules.proofs.EndExits.{EndExit, EofExit, eof-exits}
 use Rattle.decoder_rules.proofs.MoveLaws.{decode-finished, decode-stays}
 use Rattle.basics.proofs.Bools.{both}
-use Rattle.guarantees.specs.Calls.{Call, decoding, ending, recovering, allow, limit, Response, next, recordAfter, history}
+use Rattle.guarantees.specs.Calls.{Call, decoding, ending, recovering, allow, strictly, limit, Response, next, recordAfter, history}
 use Rattle.guarantees.specs.History.{leftBy, parentsLeft, isNoRecovery, neverRecovered}
 use Rattle.guarantees.specs.Promises.{Runs, Answers, openAt, leftAt}
 use Rattle.guarantees.proofs.Tied.{none-open}
@@ -70,7 +70,7 @@ module _ (es ps : List ℕ) (d : TagDecoder) (s : List ℕ) where
   exit-still (exit.no-byte n z) f = record { note = refl; action = refl }
   exit-still (exit.header-incomplete at e) f = record { note = refl; action = refl }
   exit-still (exit.header-refused x at e) f = record { note = refl; action = refl }
-  exit-still (exit.unknown-id h at g) f = record { note = refl; action = refl }
+  exit-still (exit.id-refused h at g) f = record { note = refl; action = refl }
   exit-still (exit.on-header h at g x) f = read-on (at .at-bytes .none-full .reading) f
 
   still-count : (a : Action) → isStill a ≡ true → move d a .state .«open_count» ≡ d .«open_count»
@@ -119,6 +119,7 @@ module _ (es ps : List ℕ) (d : TagDecoder) (h : Emptied d) where
   next-emptied (ending s) e = eof-emptied es ps d s h (eof-exits es ps d s)
   next-emptied (recovering s) e = absurd (false≢true e)
   next-emptied (allow ids hierarchy oversized) e = h
+  next-emptied (strictly b) e = h
   next-emptied (limit n) e = limit-emptied n
 
 emptied-after : (es ps : List ℕ) (cs : List Call) → neverRecovered cs ≡ true → Emptied (recordAfter es ps cs)

@@ -22,7 +22,7 @@ use Rattle.decoder_rules.specs.declared.types.Optional.the-variants.{Nothing, N
 use Rattle.decoder_rules.specs.declared.types.Search.{Search}
 use Rattle.decoder_rules.specs.declared.types.TagDecoder.{TagDecoder}
 use Rattle.decoder_rules.specs.declared.types.WaitingEnd.{WaitingEnd}
-use Rattle.guarantees.specs.Calls.{Call, decoding, ending, recovering, allow, limit, lent, Response, answered, searched, silent, responseTo, next, recordAfter, history, Lent}
+use Rattle.guarantees.specs.Calls.{Call, decoding, ending, recovering, allow, strictly, limit, lent, Response, answered, searched, silent, responseTo, next, recordAfter, history, Lent}
 use Rattle.guarantees.specs.History.{Started, afterResponse, takenIn, firstEnd, outermostEnd, startsOpen, position, testAfter, childTestNeverOff, isNoRecovery, neverRecovered}
 use Rattle.guarantees.specs.Promises.{Runs, lastResponse, Answers, openAt, leftAt, positionAt}
 use Rattle.guarantees.specs.CutRecords.{startedBy, everStarted}
@@ -73,6 +73,7 @@ no-search es ps d (decoding s) e a n q = let z : _≡_ {A = ℕ} 0 1 = cc in abs
 no-search es ps d (ending s) e a n q = let z : _≡_ {A = ℕ} 0 1 = cc in absurd-eq z
 no-search es ps d (recovering s) e a n q = false≢true e
 no-search es ps d (allow ids hierarchy oversized) e a n q = let z : _≡_ {A = ℕ} 0 1 = cc in absurd-eq z
+no-search es ps d (strictly b) e a n q = let z : _≡_ {A = ℕ} 0 1 = cc in absurd-eq z
 no-search es ps d (limit m) e a n q = let z : _≡_ {A = ℕ} 0 1 = cc in absurd-eq z
 
 -- ---- every Start that was ever answered

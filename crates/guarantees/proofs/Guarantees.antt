@@ -27,12 +27,13 @@ use Rattle.decoder_rules.specs.declared.types.WaitingEnd.{WaitingEnd}
 use Rattle.basics.proofs.Bools.{both, not-false}
 use Rattle.decoder_rules.proofs.MoveEffects.{opens-length, waits-length}
 use Rattle.decoder_rules.specs.Settings.{isFinished}
-use Rattle.guarantees.specs.Calls.{Call, decoding, ending, recovering, allow, limit, lent, Response, answered, searched, silent, responseTo, recordAfter, history, Lent, refusalOf}
+use Rattle.guarantees.specs.Calls.{Call, decoding, ending, recovering, allow, strictly, limit, lent, Response, answered, searched, silent, responseTo, recordAfter, history, Lent, refusalOf}
+use Rattle.guarantees.specs.Settling.{isStrictAfter}
 use Rattle.guarantees.specs.History.{Started, declaredEnd, afterResponse, afterDeclared, startsOpen, startsDeclared, parentsLeft, position, testAfter, childTestOn, childTestNeverOff, isNoRecovery, neverRecovered}
 use Rattle.guarantees.specs.Promises.{eventKind, eventId, elementOffset, Runs, lastResponse, Answers, openAt, leftAt, positionAt, HeaderOf, HeaderAlone, WholeData, EndMatches, EndsInside}
 use Rattle.guarantees.proofs.Tied.{parentOf, asEnd, named, asStarted, stack, Tied}
 use Rattle.guarantees.proofs.Steps.{reachesTo, allReach, Ends, ElementFacts, EventFacts, RefusalFacts, no-starts}
-use Rattle.guarantees.proofs.AnyCalls.{ResponseFacts, MeasuredResponse, tied-after, promised-after, test-after}
+use Rattle.guarantees.proofs.AnyCalls.{ResponseFacts, MeasuredResponse, tied-after, mode-after, promised-after, test-after}
 
 -- ---- the refusals
 
@@ -84,6 +85,7 @@ module _ (es ps : List ℕ) where
   declared-step d (ending s) l h = refl
   declared-step d (recovering s) l h = absurd (false≢true h)
   declared-step d (allow ids hierarchy oversized) l h = refl
+  declared-step d (strictly b) l h = refl
   declared-step d (limit n) l h = refl
 
   declared-so : (cs : List Call) → neverRecovered cs ≡ true → openAt es ps cs ≡ startsDeclared (tableOf es ps) (history es ps cs)
@@ -169,16 +171,19 @@ module _ (es ps : List ℕ) (cs : List Call) (c : Call) (run : Runs es ps (c ∷
   element-ends-inside on none e o end i a k = subst (EndsInside end) (declared-so es ps cs none) (ends-inside (never-off-on cs on) e o end i a k)
 
   -- what was measured of the last call
-  measured : (x : Response) → lastResponse es ps cs c ≡ x → MeasuredResponse (tableOf es ps) (lent c) (positionAt es ps cs) x
-  measured x q = subst (MeasuredResponse (tableOf es ps) (lent c) (positionAt es ps cs)) q (promised-after es ps cs c run .measured)
+  measured : (x : Response) → lastResponse es ps cs c ≡ x → MeasuredResponse (recordAfter es ps cs .settings .strict) (tableOf es ps) (lent c) (positionAt es ps cs) x
+  measured x q = subst (MeasuredResponse (recordAfter es ps cs .settings .strict) (tableOf es ps) (lent c) (positionAt es ps cs)) q (promised-after es ps cs c run .measured)
 
   -- a Start takes its header and nothing more
   pub start-takes-header : (x o n : ℕ) → lastResponse es ps cs c ≡ answered (answer.Event (event.Start x o)) n → HeaderAlone (tableOf es ps) (lent c) n
   start-takes-header x o n q = measured _ q
 
   -- a Data lay whole in the bytes lent, and is taken whole
-  pub data-whole : (x o n : ℕ) (v : TagValue) → lastResponse es ps cs c ≡ answered (answer.Event (event.Data x o v)) n → WholeData (tableOf es ps) (lent c) o n v
-  data-whole x o n v q = subst (λ (p : ℕ). WholeData (tableOf es ps) (lent c) p n v) (sym (offset-is-position (event.Data x o v) o refl (n, q))) (measured _ q)
+  pub data-whole : (x o n : ℕ) (v : TagValue) → lastResponse es ps cs c ≡ answered (answer.Event (event.Data x o v)) n → WholeData (isStrictAfter (history es ps cs)) (tableOf es ps) (lent c) o n v
+  unfolding Lent
+  data-whole x o n v q =
+      subst (λ (b : Bool). WholeData b (tableOf es ps) (lent c) o n v) (mode-after es ps (run .checked) cs (run .octets .1))
+      (subst (λ (p : ℕ). WholeData (recordAfter es ps cs .settings .strict) (tableOf es ps) (lent c) p n v) (sym (offset-is-position (event.Data x o v) o refl (n, q))) (measured _ q))
 
   -- 19 comes only where 32 masters are open, the implied parents with them
   pub at-19-full : refusalOf (lastResponse es ps cs c) ≡ 19 → length (openAt es ps cs) + length (leftAt es ps cs c) ≡ 32

@@ -26,7 +26,7 @@ use Rattle.decoder_rules.proofs.MoveLaws.{isNoEvent, noted-finished, decode-fin
 use Rattle.decoder_rules.proofs.EndExits as end
 use Rattle.decoder_rules.proofs.EndExits.{EndExit, EofExit, end-keeps, eof-exits}
 use Rattle.tag_decoder.proofs.CallLaws.{end-takes-nothing, decode-facts, eof-facts, recovery-moves}
-use Rattle.guarantees.specs.Calls.{Call, decoding, ending, recovering, allow, limit, lent, Response, answered, responseTo, next, recordAfter, history, Lent}
+use Rattle.guarantees.specs.Calls.{Call, decoding, ending, recovering, allow, strictly, limit, lent, Response, answered, responseTo, next, recordAfter, history, Lent}
 use Rattle.guarantees.specs.History.{takenIn, position, isNoRecovery, neverRecovered}
 use Rattle.guarantees.specs.Promises.{Runs, lastResponse, Answers, positionAt}
 use Rattle.guarantees.specs.CutRecords.{LendsNext, InOrder}
@@ -71,6 +71,7 @@ module _ (es ps : List ℕ) (d : TagDecoder) where
       sym j ∙ eof-takes s (eof-exits es ps d s) (ap isElement i ∙ e)
   takes-none (recovering s) a n q e = let z : _≡_ {A = ℕ} 0 1 = cc in absurd-eq z
   takes-none (allow ids hierarchy oversized) a n q e = let z : _≡_ {A = ℕ} 0 1 = cc in absurd-eq z
+  takes-none (strictly b) a n q e = let z : _≡_ {A = ℕ} 0 1 = cc in absurd-eq z
   takes-none (limit m) a n q e = let z : _≡_ {A = ℕ} 0 1 = cc in absurd-eq z
 
   -- and no more than were lent
@@ -79,6 +80,7 @@ module _ (es ps : List ℕ) (d : TagDecoder) where
   takes-lent (ending s) byte = eof-facts es ps d s byte .within
   takes-lent (recovering s) byte = recovery-moves es ps d s .within
   takes-lent (allow ids hierarchy oversized) byte = omega arith
+  takes-lent (strictly b) byte = omega arith
   takes-lent (limit m) byte = omega arith
 
 -- ---- what a call lends
@@ -89,6 +91,7 @@ lends-front s p (decoding b) l = l
 lends-front s p (ending b) l = ([], append-nil b ∙ l)
 lends-front s p (recovering b) l = absurd l
 lends-front s p (allow ids hierarchy oversized) l = (drop p s, refl)
+lends-front s p (strictly b) l = (drop p s, refl)
 lends-front s p (limit n) l = (drop p s, refl)
 
 -- by no recovery
@@ -97,6 +100,7 @@ lends-no-recovery s p (decoding b) l = refl
 lends-no-recovery s p (ending b) l = refl
 lends-no-recovery s p (recovering b) l = absurd l
 lends-no-recovery s p (allow ids hierarchy oversized) l = refl
+lends-no-recovery s p (strictly b) l = refl
 lends-no-recovery s p (limit n) l = refl
 
 -- a record read in order is read with no recovery
@@ -158,6 +162,7 @@ module _ (es ps s : List ℕ) where
       go (no h) = k .done (sym (eof-keeps-finished es ps (recordAfter es ps cs) b (omega arith) (eof-exits es ps (recordAfter es ps cs) b)) ∙ e)
   at-done cs (recovering b) l k e = absurd l
   at-done cs (allow ids hierarchy oversized) l k e = k .done e
+  at-done cs (strictly b) l k e = k .done e
   at-done cs (limit n) l k e = k .done (sym (limit-keeps-finished (recordAfter es ps cs) n) ∙ e)
 
   read-to : (cs : List Call) → Lent cs → InOrder es ps s cs → ReadTo cs

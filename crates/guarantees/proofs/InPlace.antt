@@ -31,9 +31,9 @@ use Rattle.table.proofs.Consequences.{master-of-ids}
 use Rattle.table.proofs.Entries.{path-in}
 use Rattle.table.proofs.Passed.{passed-gives}
 use Rattle.table.proofs.Shaped.{at-most-16}
-use Rattle.spec_util.specs.Ended.{isEndedBy}
+use Rattle.spec_util.specs.Ended.{isEndedBy, isEndedIn}
 use Rattle.spec_util.specs.Rfc8794.{staysOpen}
-use Rattle.spec_util.specs.Walk.{mostOpen, openTag, unknownAndEnded, validateTagPath}
+use Rattle.spec_util.specs.Walk.{mostOpen, openTag, unknownAndEnded, endedTops, validateTagPath}
 use Rattle.spec_util.specs.declared.types.OpenTag.{OpenTag}
 use Rattle.spec_util.proofs.EndsByRfc.{ends-no-parent}
 use Rattle.spec_util.proofs.WalkByRfc.{accepted-in-open}
@@ -47,7 +47,7 @@ use Rattle.tag_parse.specs.declared.types.TagHeader.{TagHeader}
 use Rattle.tag_parse.proofs.Cases.{header-sized, not-long, long-by-kind}
 use Rattle.tag_parse.proofs.Ids.{id-complete}
 use Rattle.decoder_rules.specs.Moving.{move, apply, decode}
-use Rattle.decoder_rules.specs.OneCall.{goodOpen, check10to12, checkRecord10to12, check13, isFull, settles, step7, noted, step8, reaches, step9, endedTops}
+use Rattle.decoder_rules.specs.OneCall.{goodOpen, goodForm, check10to12, checkRecord10to12, check13, isFull, settles, step7, noted, step8, reaches, fitsInside, step9}
 use Rattle.decoder_rules.specs.Record.{farthest, opens, firstSettings, atPosition, implied, settledTo, oneMore, counted, opened}
 use Rattle.decoder_rules.specs.declared.types.Action.{Action}
 use Rattle.decoder_rules.specs.declared.types.Action.the-variants as act
@@ -59,7 +59,7 @@ use Rattle.decoder_rules.specs.declared.types.Event.the-variants.{Start, Data}
 use Rattle.decoder_rules.specs.declared.types.Note.the-variants.{Settle}
 use Rattle.decoder_rules.specs.declared.types.Settings.{Settings}
 use Rattle.decoder_rules.specs.declared.types.TagDecoder.{TagDecoder}
-use Rattle.decoder_rules.proofs.Exits.{fitsInside, isTooLarge, AtElement, HeaderExit, starts, holds, AtHeader, on-header, exit-decides}
+use Rattle.decoder_rules.proofs.Exits.{isTooLarge, AtElement, HeaderExit, starts, holds, AtHeader, on-header, exit-decides}
 use Rattle.decoder_rules.proofs.GoodState.{GoodState, is-good-state, is-good-open}
 use Rattle.decoder_rules.proofs.Counting.{counted-settings, counted-notes, counted-count, counted-waiting-count, counted-arrays, counted-map, counted-every, counted-good}
 use Rattle.decoder_rules.proofs.MoveEffects.{Arrays, opens-length, settled-settings, settled-finished, settled-opens, settled-waiting-count, settled-arrays, opened-settings, opened-notes, opened-opens, opened-waiting-count, opened-arrays, with-notes-settings, with-notes-position, with-notes-finished, with-notes-opens, with-notes-count, with-notes-waiting-count, with-notes-arrays}
@@ -156,7 +156,7 @@ pub record Ready (t : List Entry) (d : TagDecoder) (x : ℕ) : Type 0 where
   pub calm : Calm d
   pub room : d .«open_count» < mostOpen
   pub stay : every (staysOpen t x) (opens d) ≡ true
-  pub walked : d .settled ≡ true → validateTagPath t x (opens d) ≡ true
+  pub walked : d .settled ≡ true → validateTagPath false t x (opens d) ≡ true
 
 -- 8 by its four tests
 passes-8 : (typed settled allowed walked : Bool) → (settled ≡ true → walked ≡ true) → (not typed || not settled || allowed || walked) ≡ true
@@ -165,13 +165,13 @@ passes-8 true false allowed walked h = refl
 passes-8 false false allowed walked h = refl
 
 -- 10 closes none of those that stay open
-none-ended : (t : List Entry) (x : ℕ) (l : List OpenTag) → every (staysOpen t x) l ≡ true → endedTops t x l ≡ 0
+none-ended : (t : List Entry) (x : ℕ) (l : List OpenTag) → every (staysOpen t x) l ≡ true → endedTops false t x l ≡ 0
 unfolding every endedTops staysOpen unknownAndEnded
 none-ended t x [] e = refl
-none-ended t x (m ∷ l) e = cond-no _ _ 0 (not-false (not (m .known) && isEndedBy t (m .id) x) (both _ (every (staysOpen t x) l) e .left))
+none-ended t x (m ∷ l) e = cond-no _ _ 0 (not-false (not (m .known) && isEndedIn false t (m .id) x) (both _ (every (staysOpen t x) l) e .left))
 
 -- an element that holds nothing has this value
-empty-value : (kind : TagDataType) (p : ℕ) → valueOf kind [] (record { begin = p; end = p }) ≡ payload.Value (emptyValue kind p)
+empty-value : (kind : TagDataType) (p : ℕ) → valueOf false kind [] (record { begin = p; end = p }) ≡ payload.Value (emptyValue kind p)
 unfolding valueOf integerOf beFrom textAfter
 empty-value type.UnsignedInt p = refl
 empty-value type.Integer p = refl
@@ -181,27 +181,44 @@ empty-value type.Float p = refl
 empty-value type.Master p = refl
 empty-value type.Untyped p = refl
 
+-- what ends inside every open master fits
+fits-by : (d : TagDecoder) (n : ℕ) → every (reaches (d .position + n)) (opens d) ≡ true → fitsInside d n ≡ true
+unfolding fitsInside
+fits-by d n e = rw e (or-true (d .settings .«allow_oversized»))
+
+-- as ported every Unknown size passes 9
+open-passes : (d : TagDecoder) (len : ℕ) → d .settings .strict ≡ false → step9 d len Unknown ≡ Pass
+unfolding step9
+open-passes d len e = rw e
+
+-- as ported every form of an ID is taken
+ported-form : (strict : Bool) (x : ℕ) → strict ≡ false → goodForm strict x ≡ true
+unfolding goodForm
+ported-form strict x e = rw e
+
 module _ (t : List Entry) (d : TagDecoder) (x : ℕ) (r : Ready t d x) (n : ℕ) where
   -- 8 and 10 are passed
   at-element : (z : EBMLSize) → step9 d (n + 1) z ≡ Pass → AtElement t d (headerWith t x n z)
   at-element z fits = record {
     valid = record {
-      path = unfold step8 in passes-8 (isTyped (dataTypeOf t x)) (d .settled) (d .settings .«allow_hierarchy») (validateTagPath t x (opens d)) (r .walked);
+      path = unfold step8 in passes-8 (isTyped (dataTypeOf t x)) (d .settled) (d .settings .«allow_hierarchy») (validateTagPath (d .settings .strict) t x (opens d))
+          (λ u. ap (λ (s : Settings). validateTagPath (s .strict) t x (opens d)) (r .calm .settings) ∙ r .walked u);
       size = fits;
     };
-    none-ended = omega (arith, none-ended t x (reverse (opens d)) (every-reversed (staysOpen t x) (opens d) (r .stay)));
+    none-ended =
+        omega
+        (arith, ap (λ (s : Settings). endedTops (s .strict) t x (reverse (opens d))) (r .calm .settings) ∙ none-ended t x (reverse (opens d)) (every-reversed (staysOpen t x) (opens d) (r .stay)));
   }
 
   -- 9, of the size 0
   nothing-fits : step9 d (n + 1) (Known 0) ≡ Pass
   unfolding step9
   nothing-fits =
-      let h = headerWith t x n (Known 0) in
       let end = d .position + (n + 1 + 0) in
       let inside : every (reaches end) (opens d) ≡ true = every-other unknown (reaches end) (λ m q. unfold reaches in rw q) (opens d) (r .calm .sizes) in
-      let fits : fitsInside d h 0 ≡ true = rw inside (or-true (d .settings .«allow_oversized»)) in
+      let fits : fitsInside d (n + 1 + 0) ≡ true = fits-by d (n + 1 + 0) inside in
       let small : isTooLarge d 0 ≡ false = ap (λ (s : Settings). s .«max_given» && ltb (s .«max_size») 0) (r .calm .settings) in
-      cond-yes (fitsInside d h 0) _ _ fits ∙ cond-no (isTooLarge d 0) _ _ small
+      cond-yes (fitsInside d (n + 1 + 0)) _ _ fits ∙ cond-no (isTooLarge d 0) _ _ small
 
   -- a Master starts, of either size
   start-exit : (s : List ℕ) (z : EBMLSize) → step9 d (n + 1) z ≡ Pass → isMaster (dataTypeOf t x) ≡ true → HeaderExit t d (headerWith t x n z) s (act.Start x z (n + 1))
@@ -214,15 +231,16 @@ module _ (t : List Entry) (d : TagDecoder) (x : ℕ) (r : Ready t d x) (n : ℕ)
       let z : n + 1 + 0 ≡ n + 1 = omega arith in
       let v = emptyValue (dataTypeOf t x) (d .position + (n + 1)) in
       holds 0 v (record { at = at-element (Known 0) nothing-fits; no-master = k; known = refl }) (omega arith)
-      (rw z (empty-value (dataTypeOf t x) (d .position + (n + 1))))
+      (rw z (ap (λ (u : Settings). valueOf (u .strict) (dataTypeOf t x) [] (record { begin = d .position + (n + 1); end = d .position + (n + 1) })) (r .calm .settings) ∙ empty-value (dataTypeOf t x) (d .position + (n + 1))))
 
 -- ---- the call
 
 -- what a call decides on a header it does, on the record with the note
-done : (es ps : List ℕ) (d : TagDecoder) (s : List ℕ) (h : TagHeader) (a : Action) → AtHeader es ps d s h → isTyped (h .kind) ≡ true
+done : (es ps : List ℕ) (d : TagDecoder) (s : List ℕ) (h : TagHeader) (a : Action) → AtHeader es ps d s h → isTyped (h .kind) ≡ true → d .settings .strict ≡ false
     → HeaderExit (tableOf es ps) (noted ps d (step7 (tableOf es ps) d h)) h s a → decode es ps d s ≡ move (noted ps d (step7 (tableOf es ps) d h)) a
 unfolding apply
-done es ps d s h a at typed x = ap (apply ps d) (sym (exit-decides es ps d s (on-header h at (rw typed) x)))
+done es ps d s h a at typed ported x =
+    ap (apply ps d) (sym (exit-decides es ps d s (on-header h at (and-both (ported-form (d .settings .strict) (h .id) ported) (rw typed)) x)))
 
 -- a call answers this event and takes n bytes
 pub record Tells (r : Decoded) (e : Event) (n : ℕ) : Type 0 where
@@ -251,15 +269,18 @@ module _ (es ps : List ℕ) (shape : goodShape es ps ≡ true) (x n : ℕ) (octe
       long : length s ≡ n + (1 + length rest)
       long = length-append octets (0x80 ∷ rest) ∙ omega (arith, i .count)
 
+      ported : d .settings .strict ≡ false
+      ported = ap (λ (u : Settings). u .strict) (calm .settings)
+
       at : AtHeader es ps d s h
       at = at-header es ps d s h shape calm near (omega (arith, long)) (empty-header t x n octets i rest)
 
       go : (b : Bool) → isMaster (dataTypeOf t x) ≡ b → Tells (decode es ps d s) (emptyEvent (dataTypeOf t x) x (d .position) (n + 1)) (n + 1)
       go true k =
-          let q = done es ps d s h (act.Start x (Known 0) (n + 1)) at typed (start-exit t e x ready n s (Known 0) (nothing-fits t e x ready n) k) in
+          let q = done es ps d s h (act.Start x (Known 0) (n + 1)) at typed ported (start-exit t e x ready n s (Known 0) (nothing-fits t e x ready n) k) in
           unfold move in rw (q, k, noted-position ps d (step7 t d h)) (record { answer = refl; taken = refl })
       go false k =
-          let q = done es ps d s h _ at typed (data-exit t e x ready n s (omega (arith, long)) k) in
+          let q = done es ps d s h _ at typed ported (data-exit t e x ready n s (omega (arith, long)) k) in
           unfold move in rw (q, k, noted-position ps d (step7 t d h), add-zero) (record { answer = refl; taken = refl })
 
 -- ---- the place: the open masters are those that the path names
@@ -305,8 +326,8 @@ settled-calm d path calm short = record {
 
 -- a master that does not end by the ID x stays open
 stays-open : (t : List Entry) (x : ℕ) (m : OpenTag) → isEndedBy t (m .id) x ≡ false → staysOpen t x m ≡ true
-unfolding staysOpen unknownAndEnded
-stays-open t x m e = rw (e, and-false (not (m .known)))
+unfolding staysOpen unknownAndEnded isEndedIn
+stays-open t x m e = ap not (ap (λ (b : Bool). not (m .known) && b) e ∙ and-false (not (m .known)))
 
 module _ (es ps : List ℕ) (checked : checkTable es ps ≡ Passed) (x : ℕ) (typed : isTyped (dataTypeOf (tableOf es ps) x) ≡ true) (ids : onlyIds (pathOf (tableOf es ps) x) ≡ true) where
   -- a path has at most 16 parts
@@ -477,6 +498,5 @@ master-told es ps checked x n octets i master d rest before near =
 
     q : decode es ps d s ≡ move e (act.Start x Unknown (n + 1))
     q =
-        unfold step9 in
         done es ps d s h (act.Start x Unknown (n + 1)) (at-header es ps d s h (good-shape es ps checked) (before .calm) near (omega (arith, long)) (open-header t x n octets i rest master))
-        (ap isTyped master) (start-exit t e x r n s Unknown refl (is-master _ master))
+        (ap isTyped master) (ap (λ (u : Settings). u .strict) (before .calm .settings)) (start-exit t e x r n s Unknown (open-passes e (n + 1) (ap (λ (u : Settings). u .strict) (p .calm .settings))) (is-master _ master))

@@ -32,4 +32,7 @@ pub mod CountsLookedUp
 pub mod Counted
 pub mod Skipped
 pub mod Needed
+pub mod WaitingEnds
+pub mod UnknownEnds
+pub mod UnknownEndsExamples
 pub mod Computing

@@ -22,6 +22,7 @@ use Rattle.decoder_rules.specs.declared.types.TagDecoder.{TagDecoder}
 use Rattle.decoder_rules.proofs.GoodState.{GoodState}
 use Rattle.basics.proofs.Every.{every-append, every-take, every-map, every-reversed}
 use Rattle.basics.proofs.Bools.{and-both, both, pick}
+use Rattle.basics.proofs.Maps.{map-reversed}
 use Rattle.decoder_rules.proofs.MoveEffects.{opens-length, waits-length, with-notes-arrays, settled-opens, settled-arrays, opened-opens, opened-arrays, closed-opens, closed-waits, closed-arrays, handed-waits, handed-arrays, grown-opens, grown-arrays}
 use Rattle.decoder_rules.proofs.Counting.{counted-map, counted-every, counted-arrays, counted-good}
 use Rattle.decoder_rules.proofs.MovesKeepGoodState.{with-notes-good, settled-good, opened-good, closed-good, handed-good}
@@ -71,11 +72,6 @@ module _ (t : List Entry) (d : TagDecoder) (starts : List Started) (left : List 
 map-dropped : {A B : Type 0} (f : A → B) (l : List A) → drop 1 (map f l) ≡ map f (drop 1 l)
 map-dropped f [] = refl
 map-dropped f (a ∷ l) = refl
-
--- a list from its other end
-pub map-reversed : {A B : Type 0} (f : A → B) (l : List A) → map f (reverse l) ≡ reverse (map f l)
-map-reversed f [] = refl
-map-reversed f (a ∷ l) = ap (map f) (reverse-cons a l) ∙ map-append f (reverse l) (a ∷ []) ∙ ap (λ (k : List _). k ++ (f a ∷ [])) (map-reversed f l) ∙ sym (reverse-cons (f a) (map f l))
 
 no-ends : (l : List Started) → map asEnd l ≡ [] → l ≡ []
 no-ends [] e = refl

@@ -11,7 +11,7 @@ use Rattle.decoder_rules.specs.declared.types.Check.the-variants.{Pass, Fail}
 use Rattle.decoder_rules.specs.declared.types.Note.{Note}
 use Rattle.decoder_rules.specs.declared.types.Note.the-variants.{NoNote}
 use Rattle.decoder_rules.specs.declared.types.TagDecoder.{TagDecoder}
-use Rattle.guarantees.specs.Calls.{Call, decoding, ending, recovering, allow, limit}
+use Rattle.guarantees.specs.Calls.{Call, decoding, ending, recovering, allow, strictly, limit}
 
 -- the note of a search
 abbrev pub noteOfSearch : List ℕ → List Entry → TagDecoder → List ℕ → Note
@@ -29,4 +29,5 @@ module _ (es ps : List ℕ) where
   noteOf d (ending s) = decide es ps d s .note
   noteOf d (recovering s) = searchNoteOr ps (tableOf es ps) d s (checkRecord10to12 es ps d (length s))
   noteOf d (allow ids hierarchy oversized) = NoNote
+  noteOf d (strictly b) = NoNote
   noteOf d (limit n) = NoNote

@@ -17,6 +17,7 @@ use Rattle.decoder_rules.specs.declared.types.Optional.the-variants.{Nothing, N
 use Rattle.decoder_rules.specs.declared.types.TagDecoder.{TagDecoder}
 use Rattle.basics.proofs.Bools.{both}
 use Rattle.basics.proofs.Every.{every-append, every-take}
+use Rattle.basics.proofs.Maps.{take-map}
 use Rattle.guarantees.specs.History.{Started, laterEnd, later, firstEnd, outermostEnd, leftByEnd}
 use Rattle.guarantees.proofs.Ends.{knownEnd, endedBy, firstKnown, FullBatch, take-reversed}
 use Rattle.guarantees.proofs.Tied.{asStarted, parentOf, stack, allEnded}
@@ -72,12 +73,6 @@ all-batch p w starts left e =
     all-outermost p (take w (stack starts left)) (every-take test w (stack starts left) (every-append test starts (map parentOf left) e (parents-ended p left)))
 
 -- ---- masters close
-
--- the first of what a list becomes
-pub take-map : {A B : Type 0} (f : A → B) (n : ℕ) (l : List A) → take n (map f l) ≡ map f (take n l)
-take-map f zero l = refl
-take-map f (suc n) [] = refl
-take-map f (suc n) (a ∷ l) = ap (λ (k : List _). f a ∷ k) (take-map f n l)
 
 outermost-last : (l : List Started) (m : Started) → outermostEnd (l ++ (m ∷ [])) ≡ firstEnd (m .end) (outermostEnd l)
 unfolding outermostEnd

@@ -28,9 +28,10 @@ use Rattle.tag_decoder_lent.proofs.calls.decode as lent-decode
 use Rattle.tag_decoder_lent.proofs.calls.decode_eof as lent-eof
 use Rattle.tag_decoder_lent.proofs.calls.try_recover as lent-recover
 use Rattle.tag_decoder_lent.proofs.settings.allow_errors as lent-allow
+use Rattle.tag_decoder_lent.proofs.settings.set_strict as lent-strict
 use Rattle.tag_decoder_lent.proofs.settings.set_max_allowable_tag_size as lent-max
 use Rattle.guarantees.specs.Calls.{Call, Response, answered, searched, Step, responseTo, next, stepOf, recordAfter, history}
-use Rattle.guarantees.specs.Results.{Run, begun, called, SameAsDefined, NewReturns, ByValue, decoded, ended, recovered, allowed, limited, DecodeLeaves, EofLeaves, RecoverLeaves, AllowLeaves, MaxLeaves, ByReference, lent-decoded, lent-ended, lent-recovered, lent-allowed, lent-limited}
+use Rattle.guarantees.specs.Results.{Run, begun, called, SameAsDefined, NewReturns, ByValue, decoded, ended, recovered, allowed, made-strict, limited, DecodeLeaves, EofLeaves, RecoverLeaves, AllowLeaves, StrictLeaves, MaxLeaves, ByReference, lent-decoded, lent-ended, lent-recovered, lent-allowed, lent-made-strict, lent-limited}
 
 -- ---- a run of results that are the definitions'
 
@@ -83,6 +84,7 @@ module _ (es ps : List ℕ) where
       record { told = ap (λ (y : Recovered). searched (y .answer) (y .taken)) q; state = ap (λ (y : Recovered). y .state) q }
   value-is d _ _ _ (allowed ids hierarchy oversized e k) =
       record { told = refl; state = rw (k .holds .0, k .holds .1, k .holds .2, k .holds .3) at (k .ensured) }
+  value-is d _ _ _ (made-strict b e k) = record { told = refl; state = rw (k .holds .0, k .holds .1) at (k .ensured) }
   value-is d _ _ _ (limited n e k) = record { told = refl; state = rw (k .holds .0, k .holds .1) at (k .ensured) }
 
   -- a run of results of the routines by value
@@ -97,6 +99,7 @@ module _ (es ps : List ℕ) where
   lent-is d _ _ _ (lent-ended s r e k) = record { told = ap (λ (y : Reply). answered (y .answer) (y .taken)) (k .answer); state = k .left }
   lent-is d _ _ _ (lent-recovered s r e k) = record { told = ap (λ (y : RecoveryReply). searched (y .answer) (y .taken)) (k .answer); state = k .left }
   lent-is d _ _ _ (lent-allowed ids hierarchy oversized e k) = record { told = refl; state = k }
+  lent-is d _ _ _ (lent-made-strict b e k) = record { told = refl; state = k }
   lent-is d _ _ _ (lent-limited n e k) = record { told = refl; state = k }
 
   -- a run of results of the routines to which the record is lent
@@ -124,6 +127,9 @@ module _ {M : Type 1} (𝓤 : URA M) (H : Heap 𝓤) (A : Atoms 𝓤) (mem : Mem
 
   pub lent-allow-ensures : Ensures lent-allow.ended (lent-allow.clauses 𝓤 H A mem run) (λ κs a r ws. AllowLeaves (now (a .0)) (a .1 .0) (a .1 .1 .0) (a .1 .1 .1 .0) (ws .0))
   lent-allow-ensures κs a g r ws = refl
+
+  pub lent-strict-ensures : Ensures lent-strict.ended (lent-strict.clauses 𝓤 H A mem run) (λ κs a r ws. StrictLeaves (now (a .0)) (a .1 .0) (ws .0))
+  lent-strict-ensures κs a g r ws = refl
 
   pub lent-max-ensures : Ensures lent-max.ended (lent-max.clauses 𝓤 H A mem run) (λ κs a r ws. MaxLeaves (now (a .0)) (a .1 .0) (ws .0))
   lent-max-ensures κs a g r ws = refl

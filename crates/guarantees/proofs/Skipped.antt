@@ -30,7 +30,7 @@ use Rattle.decoder_rules.specs.declared.types.Search.{Search}
 use Rattle.decoder_rules.specs.declared.types.TagDecoder.{TagDecoder}
 use Rattle.decoder_rules.proofs.FirstPlace.{note-holds, recovery-is-first, recovery-tells-first, recovery-passes-over}
 use Rattle.decoder_rules.proofs.MoveEffects.{settled-opens, grown-opens}
-use Rattle.guarantees.specs.Calls.{Call, decoding, ending, recovering, allow, limit, Response, answered, searched, silent, responseTo, recordAfter, history, Lent}
+use Rattle.guarantees.specs.Calls.{Call, decoding, ending, recovering, allow, strictly, limit, Response, answered, searched, silent, responseTo, recordAfter, history, Lent}
 use Rattle.guarantees.specs.History.{takenIn, position}
 use Rattle.guarantees.specs.Promises.{lastResponse, positionAt}
 use Rattle.guarantees.specs.Skipped.{eventTook, recoveryPassed, takenByEvents, skipped, knownEnds, grownBy, Skipping}
@@ -50,6 +50,7 @@ module _ (es ps : List ℕ) (d : TagDecoder) where
   searched-is (ending s) a n q = let z : _≡_ {A = ℕ} 0 1 = cc in absurd-eq z
   searched-is (recovering s) a n q = (s, cc, cc)
   searched-is (allow ids hierarchy oversized) a n q = let z : _≡_ {A = ℕ} 0 1 = cc in absurd-eq z
+  searched-is (strictly b) a n q = let z : _≡_ {A = ℕ} 0 1 = cc in absurd-eq z
   searched-is (limit m) a n q = let z : _≡_ {A = ℕ} 0 1 = cc in absurd-eq z
 
   -- what a call takes an event took, or a recovery passed over

@@ -10,7 +10,8 @@ use lib.ListN.{length, getD, take, drop, length-append, length-map, length-rever
 use Rattle.tools.specs.Bytes.{Octets}
 use Rattle.basics.specs.Lists.{every, firstIndex}
 use Rattle.table.specs.Shape.{goodShape}
-use Rattle.table.specs.Table.{Entry, tableOf, partsOf, partsIn, dataTypeOf, isMaster}
+use Rattle.table.specs.Check.{onlyIds}
+use Rattle.table.specs.Table.{Entry, tableOf, partsOf, partsIn, dataTypeOf, pathOf, isMaster, isTyped}
 use Rattle.table.specs.declared.types.TagDataType.the-variants as type
 use Rattle.table.proofs.Rules.{master-is}
 use Rattle.table.specs.Passed.{PassedTable}
@@ -109,17 +110,26 @@ Quiet answer.Finished n d = (n ≡ 0) × (d .«waiting_count» ≡ 0) × (d .fin
 Quiet (answer.Refused r) n d = Unit {0}
 
 -- a Start takes its header alone, a Data its element whole
-abbrev pub MeasuredEvent : List Entry → List ℕ → ℕ → Event → ℕ → Type 0
-MeasuredEvent t s p (event.Start x o) n = HeaderAlone t s n
-MeasuredEvent t s p (event.End end) n = Unit {0}
-MeasuredEvent t s p (event.Data x o v) n = WholeData t s p n v
+abbrev pub MeasuredEvent : Bool → List Entry → List ℕ → ℕ → Event → ℕ → Type 0
+MeasuredEvent strict t s p (event.Start x o) n = HeaderAlone t s n
+MeasuredEvent strict t s p (event.End end) n = Unit {0}
+MeasuredEvent strict t s p (event.Data x o v) n = WholeData strict t s p n v
 
 -- the same of an answer
-abbrev pub Measured : List Entry → List ℕ → ℕ → Answer → ℕ → Type 0
-Measured t s p (answer.Event e) n = MeasuredEvent t s p e n
-Measured t s p (answer.NeedMore missing) n = Unit {0}
-Measured t s p answer.Finished n = Unit {0}
-Measured t s p (answer.Refused r) n = Unit {0}
+abbrev pub Measured : Bool → List Entry → List ℕ → ℕ → Answer → ℕ → Type 0
+Measured strict t s p (answer.Event e) n = MeasuredEvent strict t s p e n
+Measured strict t s p (answer.NeedMore missing) n = Unit {0}
+Measured strict t s p answer.Finished n = Unit {0}
+Measured strict t s p (answer.Refused r) n = Unit {0}
+
+-- an element whose path is all IDs leaves the record settled
+abbrev pub SettledBy : List Entry → Answer → TagDecoder → Type 0
+SettledBy t (answer.Event (event.Start x o)) e = e .settled ≡ true
+SettledBy t (answer.Event (event.End end)) e = Unit {0}
+SettledBy t (answer.Event (event.Data x o v)) e = (isTyped (dataTypeOf t x) && onlyIds (pathOf t x)) ≡ true → e .settled ≡ true
+SettledBy t (answer.NeedMore missing) e = Unit {0}
+SettledBy t answer.Finished e = Unit {0}
+SettledBy t (answer.Refused r) e = Unit {0}
 
 -- an End closes with those that still wait, of which the outermost of known size is full: l are the open Starts and the
 -- implied parents
@@ -136,16 +146,17 @@ Batch l p answer.Finished e = Unit {0}
 Batch l p (answer.Refused r) e = Unit {0}
 
 -- a call answers a, takes n bytes and leaves the record e
-pub record Called (t : List Entry) (off : Bool) (s : List ℕ) (starts : List Started) (left : List ℕ) (p : ℕ) (a : Answer) (n : ℕ) (e : TagDecoder) : Type 0 where
-  pub promised : AnswerFacts t off s starts left p a
+pub record Called (t : List Entry) (set : Settings) (s : List ℕ) (starts : List Started) (left : List ℕ) (p : ℕ) (a : Answer) (n : ℕ) (e : TagDecoder) : Type 0 where
+  pub promised : AnswerFacts t (set .«allow_oversized») s starts left p a
   pub quiet : Quiet a n e
-  pub measured : Measured t s p a n
+  pub measured : Measured (set .strict) t s p a n
+  pub settles : SettledBy t a e
   pub batch : Batch (stack starts left) p a e
   pub tied : Tied t e (afterAnswer t s a starts) (leftByAnswer a starts left) (p + n)
   -- the input is not ended while a Start of known size that is open is not full
   pub closes-full : e .finished ≡ true → allEnded p starts ≡ true
-  -- the child-size test is on or off as before
-  pub kept : e .settings .«allow_oversized» ≡ off
+  -- the settings are as before
+  pub kept : e .settings ≡ set
 
 -- ---- lists
 
@@ -198,7 +209,7 @@ module _ (t : List Entry) (d : TagDecoder) (s : List ℕ) (starts : List Started
   same-place : Tied t d starts left (d .position + 0)
   same-place = let e : d .position ≡ d .position + 0 = omega arith in subst (Tied t d starts left) e k
 
-  refused-called : (e : DecodeError) (q : ℕ) → Mild d e → Called t (d .settings .«allow_oversized») s starts left (d .position) (answer.Refused (record { error = e; place = q })) 0 d
+  refused-called : (e : DecodeError) (q : ℕ) → Mild d e → Called t (d .settings) s starts left (d .position) (answer.Refused (record { error = e; place = q })) 0 d
   refused-called e q m = record {
     promised = record {
       not-10 = m .not-10;
@@ -208,20 +219,21 @@ module _ (t : List Entry) (d : TagDecoder) (s : List ℕ) (starts : List Started
     };
     quiet = tt;
     measured = tt;
+    settles = tt;
     batch = tt;
     tied = same-place;
     closes-full = k .full;
     kept = refl;
   }
 
-  more-called : {m : ℕ} → Reading d → Called t (d .settings .«allow_oversized») s starts left (d .position) (answer.NeedMore m) 0 d
-  more-called r = record { promised = tt; quiet = (refl, r .none-waiting); measured = tt; batch = tt; tied = same-place; closes-full = k .full; kept = refl }
+  more-called : {m : ℕ} → Reading d → Called t (d .settings) s starts left (d .position) (answer.NeedMore m) 0 d
+  more-called r = record { promised = tt; quiet = (refl, r .none-waiting); measured = tt; settles = tt; batch = tt; tied = same-place; closes-full = k .full; kept = refl }
 
-  finished-called : d .«waiting_count» ≡ 0 → d .finished ≡ true → Called t (d .settings .«allow_oversized») s starts left (d .position) answer.Finished 0 d
-  finished-called w f = record { promised = no-starts starts (omega (arith, k .finished f)); quiet = (refl, w, f); measured = tt; batch = tt; tied = same-place; closes-full = k .full; kept = refl }
+  finished-called : d .«waiting_count» ≡ 0 → d .finished ≡ true → Called t (d .settings) s starts left (d .position) answer.Finished 0 d
+  finished-called w f = record { promised = no-starts starts (omega (arith, k .finished f)); quiet = (refl, w, f); measured = tt; settles = tt; batch = tt; tied = same-place; closes-full = k .full; kept = refl }
 
   handed-called : 0 < d .«waiting_count»
-      → Called t (d .settings .«allow_oversized») s starts left (d .position) (answer.Event (event.End (getD (d .waiting) 0 noEnd))) 0 (handedOut d)
+      → Called t (d .settings) s starts left (d .position) (answer.Event (event.End (getD (d .waiting) 0 noEnd))) 0 (handedOut d)
   unfolding handedOut withWaiting
   handed-called h =
       let o = handed-linked t d starts left (d .position) (k .linked) h in
@@ -232,6 +244,7 @@ module _ (t : List Entry) (d : TagDecoder) (s : List ℕ) (starts : List Started
         promised = (master-is _ (o .master), o .matches);
         quiet = tt;
         measured = tt;
+        settles = tt;
         batch = full;
         tied = record {
           linked = subst (Linked t (handedOut d) (drop 1 starts) (leftByEnd starts left)) e (o .linked);
@@ -243,8 +256,8 @@ module _ (t : List Entry) (d : TagDecoder) (s : List ℕ) (starts : List Started
         kept = refl;
       }
 
-  closed-called : (n : ℕ) → n < d .«open_count» → Closes d n
-      → Called t (d .settings .«allow_oversized») s starts left (d .position) (answer.Event (event.End (getD (endsFrom d n) 0 noEnd))) 0 (closedTo d n)
+  closed-called : (n : ℕ) → n < d .«open_count» → Closes t d s n
+      → Called t (d .settings) s starts left (d .position) (answer.Event (event.End (getD (endsFrom d n) 0 noEnd))) 0 (closedTo d n)
   unfolding closedTo withOpen withWaiting
   closed-called n h f =
       let r = f .reading in
@@ -256,6 +269,7 @@ module _ (t : List Entry) (d : TagDecoder) (s : List ℕ) (starts : List Started
         promised = (master-is _ (o .master), o .matches);
         quiet = tt;
         measured = tt;
+        settles = tt;
         batch = full;
         tied = record {
           linked = subst (Linked t (closedTo d n) (drop 1 starts) (leftByEnd starts left)) e (o .linked);
@@ -274,7 +288,7 @@ module _ (t : List Entry) (d : TagDecoder) (s : List ℕ) (starts : List Started
       rw e (tested t d starts left (d .position) (k .linked) w (reaches (d .position + (len + n))) (λ m. reachesTo (d .position + (len + n)) (m .end)) (reaches-to (d .position + (len + n))) (i off))
 
   started-called : (x : ℕ) (z : EBMLSize) (len : ℕ) → d .«open_count» < 32 → d .position + len ≤ 2 ^ 62 → Starts t d s x z len
-      → Called t (d .settings .«allow_oversized») s starts left (d .position) (answer.Event (event.Start x (d .position))) len (opened (counted (atPosition d (d .position + len))) (masterAt x z (d .position) len))
+      → Called t (d .settings) s starts left (d .position) (answer.Event (event.Start x (d .position))) len (opened (counted (atPosition d (d .position + len))) (masterAt x z (d .position) len))
   unfolding counted opened withOpen withNotes
   started-called x z len few near f =
       let e = counted (atPosition d (d .position + len)) in
@@ -286,6 +300,7 @@ module _ (t : List Entry) (d : TagDecoder) (s : List ℕ) (starts : List Started
         promised = (f .master, record { heads = f .heads; offset = refl; inside = rw (f .end) (ends-inside z len (f .reading .none-waiting) (f .inside)) });
         quiet = tt;
         measured = f .alone;
+        settles = f .settled;
         batch = tt;
         tied = record {
           linked = subst (λ (o : Started). Linked t (opened e m) (o ∷ starts) left (d .position + len)) is
@@ -299,13 +314,14 @@ module _ (t : List Entry) (d : TagDecoder) (s : List ℕ) (starts : List Started
       }
 
   data-called : (x : ℕ) (v : TagValue) (n : ℕ) → d .position + n ≤ 2 ^ 62 → Holds t d s x v n
-      → Called t (d .settings .«allow_oversized») s starts left (d .position) (answer.Event (event.Data x (d .position) v)) n (counted (atPosition d (d .position + n)))
+      → Called t (d .settings) s starts left (d .position) (answer.Event (event.Data x (d .position) v)) n (counted (atPosition d (d .position + n)))
   unfolding counted withOpen withNotes
   data-called x v n near f =
       record {
         promised = (f .kind, record { heads = f .heads; offset = refl; inside = rw (f .end) inside-all });
         quiet = tt;
         measured = f .whole;
+        settles = f .settled;
         batch = tt;
         tied = record {
           linked = counted-linked t d starts left (d .position) (k .linked) (d .position + n) (omega (arith, f .some)) near;
@@ -322,7 +338,7 @@ module _ (t : List Entry) (d : TagDecoder) (s : List ℕ) (starts : List Started
 
   -- what each action promises
   pub move-called : (a : Action) → ActionApplies d (length s) a → Facts t d s a
-      → Called t (d .settings .«allow_oversized») s starts left (d .position) (move d a .answer) (move d a .taken) (move d a .state)
+      → Called t (d .settings) s starts left (d .position) (move d a .answer) (move d a .taken) (move d a .state)
   unfolding move
   move-called (act.Refuse e) g f = refused-called e (d .position) f
   move-called (act.NeedMore missing) g f = more-called f
@@ -352,10 +368,6 @@ noted-tied ps t d starts left p (Settle path) f k = record {
   batch = none-batch (d .«waiting_count») (unsettled-waiting t d starts left p (k .linked) (f .unsettled)) p _;
 }
 
--- the note leaves the child-size test as it is
-pub noted-oversized : (ps : List ℕ) (d : TagDecoder) (n : Note) → noted ps d n .settings .«allow_oversized» ≡ d .settings .«allow_oversized»
-noted-oversized ps d n = ap (λ (s : Settings). s .«allow_oversized») (noted-settings ps d n)
-
 -- ---- the end of input, where no event is left
 
 -- where the first that passes is past the list, none does
@@ -380,13 +392,14 @@ uncut p m h = not-cut (m .known) p (endOf m) h
 module _ (t : List Entry) (d : TagDecoder) (s : List ℕ) (starts : List Started) (left : List ℕ) (k : Tied t d starts left (d .position)) (none : d .«waiting_count» ≡ 0) where
   -- what it answers, with the record after it
   abbrev Ended : Decoded → Type 0
-  Ended r = Called t (d .settings .«allow_oversized») s starts left (d .position) (r .answer) (r .taken) (r .state)
+  Ended r = Called t (d .settings) s starts left (d .position) (r .answer) (r .taken) (r .state)
 
   cut-called : (e : DecodeError) (q : ℕ) → errorNumber e ≡ 23 → Ended (refuse e q d)
   cut-called e q n = record {
     promised = record { not-10 = λ z. omega arith; not-11 = λ z. omega arith; not-24 = λ z. omega arith; at-19 = λ z. absurd (omega arith) };
     quiet = tt;
     measured = tt;
+    settles = tt;
     batch = tt;
     tied = same-place t d s starts left k;
     closes-full = k .full;
@@ -415,6 +428,7 @@ module _ (t : List Entry) (d : TagDecoder) (s : List ℕ) (starts : List Started
           promised = no-starts starts (omega (arith, few-starts));
           quiet = (refl, none, refl);
           measured = tt;
+          settles = tt;
           batch = tt;
           tied = record {
             linked = subst (Linked t (ending d) starts left) z at-end;
@@ -436,6 +450,7 @@ module _ (t : List Entry) (d : TagDecoder) (s : List ℕ) (starts : List Started
           promised = (master-is _ (o .master), o .matches);
           quiet = tt;
           measured = tt;
+          settles = tt;
           batch = all-batch (d .position) (d .«open_count» - 0 - 1 + 1) starts left full;
           tied = record {
             linked = subst (Linked t (closedTo e 0) (drop 1 starts) (leftByEnd starts left)) z (o .linked);
@@ -489,15 +504,15 @@ module _ (es ps : List ℕ) (shape : goodShape es ps ≡ true) (passed : PassedT
 
   -- what a call on this record answers, with the record after it
   abbrev CalledAs : Decoded → Type 0
-  CalledAs r = Called (tableOf es ps) (d .settings .«allow_oversized») s starts (impliedBy ps (decide es ps d s .note) ++ left) p (r .answer) (r .taken) (r .state)
+  CalledAs r = Called (tableOf es ps) (d .settings) s starts (impliedBy ps (decide es ps d s .note) ++ left) p (r .answer) (r .taken) (r .state)
 
   -- what is so of the record with the note is so of this record
-  from-note : (r : Decoded) → Called (tableOf es ps) (withNote es ps d s .settings .«allow_oversized») s starts (impliedBy ps (decide es ps d s .note) ++ left) (withNote es ps d s .position) (r .answer) (r .taken) (r .state)
+  from-note : (r : Decoded) → Called (tableOf es ps) (withNote es ps d s .settings) s starts (impliedBy ps (decide es ps d s .note) ++ left) (withNote es ps d s .position) (r .answer) (r .taken) (r .state)
       → CalledAs r
   from-note r c =
       let left' = impliedBy ps (decide es ps d s .note) ++ left in
-      subst (λ (q : ℕ). Called (tableOf es ps) (d .settings .«allow_oversized») s starts left' q (r .answer) (r .taken) (r .state)) here
-      (subst (λ (b : Bool). Called (tableOf es ps) b s starts left' (withNote es ps d s .position) (r .answer) (r .taken) (r .state)) (noted-oversized ps d (decide es ps d s .note)) c)
+      subst (λ (q : ℕ). Called (tableOf es ps) (d .settings) s starts left' q (r .answer) (r .taken) (r .state)) here
+      (subst (λ (b : Settings). Called (tableOf es ps) b s starts left' (withNote es ps d s .position) (r .answer) (r .taken) (r .state)) (noted-settings ps d (decide es ps d s .note)) c)
 
   -- what a decode call promises
   pub decode-called : CalledAs (decode es ps d s)
@@ -506,13 +521,16 @@ module _ (es ps : List ℕ) (shape : goodShape es ps ≡ true) (passed : PassedT
       from-note (decode es ps d s)
       (move-called (tableOf es ps) (withNote es ps d s) s starts _ with-note-tied (decide es ps d s .action) (decide-applies es ps d s byte .action) (facts .action))
 
+  -- where the end of input is looked at, no End waits
+  pub quiet-none-waits : isQuiet (decode es ps d s .answer) ≡ true → withNote es ps d s .«waiting_count» ≡ 0
+  quiet-none-waits q =
+      subst (λ (e : TagDecoder). e .«waiting_count» ≡ 0) (decode-stays es ps d s (quiet-no-event (decode es ps d s .answer) q) .same)
+      (quiet-waits (decode es ps d s .answer) (decode es ps d s .taken) (decode es ps d s .state) (decode-called .quiet) q)
+
   exit-called : {r : Decoded} → EofExit es ps d s r → CalledAs r
   exit-called (end.as-decoded q) = decode-called
   exit-called (end.at-end {r} q x) =
-      let none : withNote es ps d s .«waiting_count» ≡ 0 =
-      subst (λ (e : TagDecoder). e .«waiting_count» ≡ 0) (decode-stays es ps d s (quiet-no-event (decode es ps d s .answer) q) .same)
-      (quiet-waits (decode es ps d s .answer) (decode es ps d s .taken) (decode es ps d s .state) (decode-called .quiet) q) in
-      from-note r (ended-called (tableOf es ps) (withNote es ps d s) s starts _ with-note-tied none x)
+      from-note r (ended-called (tableOf es ps) (withNote es ps d s) s starts _ with-note-tied (quiet-none-waits q) x)
 
   -- what the end of input promises
   pub eof-called : CalledAs (decodeEof es ps d s)

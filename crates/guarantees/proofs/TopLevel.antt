@@ -46,9 +46,9 @@ head-inside t s p n e h q = go (h .its .size) (sym (ap (headerEnd p) (h .read)) 
     go (Known k) r = let y : p + h .its .len + k ≡ e = cc in omega (arith, y, h .no-more)
 
 -- a Data ends where what is taken does
-data-end : (t : List Entry) (s : List ℕ) (p n : ℕ) (v : TagValue) → WholeData t s p n v → declaredEnd t p s ≡ Number (p + n)
+data-end : (strict : Bool) (t : List Entry) (s : List ℕ) (p n : ℕ) (v : TagValue) → WholeData strict t s p n v → declaredEnd t p s ≡ Number (p + n)
 unfolding declaredEnd
-data-end t s p n v h =
+data-end strict t s p n v h =
     let a : p + h .its .len + h .size ≡ p + n = omega (arith, h .count) in
     ap (headerEnd p) (h .read) ∙ ap (endAfter (p + h .its .len)) (h .known) ∙ ap Number a
 
@@ -122,29 +122,29 @@ end-top t s end n p (m ∷ m' ∷ l) g z k full (inside f q r le) =
     inside f q (under m (m' ∷ l) f known r (λ e. let w : _≡_ {A = ℕ} 0 1 = cc in absurd-eq w)) (omega arith)
 
 -- a Data
-data-top : (t : List Entry) (s : List ℕ) (y o n p : ℕ) (v : TagValue) (l : List Started) (g : Optional) → WholeData t s p n v → o ≡ p → Ends false (declaredEnd t p s) l
+data-top : (strict : Bool) (t : List Entry) (s : List ℕ) (y o n p : ℕ) (v : TagValue) (l : List Started) (g : Optional) → WholeData strict t s p n v → o ≡ p → Ends false (declaredEnd t p s) l
     → TopAt g l p → TopAt (topBy t s l (answered (answer.Event (event.Data y o v)) n) g) l (p + n)
-data-top t s y o n p v [] g h i ends at = outside refl (ap (λ (z : ℕ). declaredEnd t z s) i ∙ data-end t s p n v h)
-data-top t s y o n p v (m ∷ l) g h i ends (outside z q) = let w : _≡_ {A = ℕ} 0 1 = cc in absurd-eq w
-data-top t s y o n p v (m ∷ l) g h i ends (inside f q r le) =
-    inside f q r (inside-outermost (p + n) f (m ∷ l) (subst (λ (z : Optional). Ends false z (m ∷ l)) (data-end t s p n v h) ends) r)
+data-top strict t s y o n p v [] g h i ends at = outside refl (ap (λ (z : ℕ). declaredEnd t z s) i ∙ data-end strict t s p n v h)
+data-top strict t s y o n p v (m ∷ l) g h i ends (outside z q) = let w : _≡_ {A = ℕ} 0 1 = cc in absurd-eq w
+data-top strict t s y o n p v (m ∷ l) g h i ends (inside f q r le) =
+    inside f q r (inside-outermost (p + n) f (m ∷ l) (subst (λ (z : Optional). Ends false z (m ∷ l)) (data-end strict t s p n v h) ends) r)
 
 -- what any call tells, where the child-size test is on
-told-top : (t : List Entry) (s : List ℕ) (l : List Started) (left : List ℕ) (p : ℕ) (g : Optional) (x : Response) (ever : List Started) → ResponseFacts t false s l left p x → MeasuredResponse t s p x
+told-top : (strict : Bool) (t : List Entry) (s : List ℕ) (l : List Started) (left : List ℕ) (p : ℕ) (g : Optional) (x : Response) (ever : List Started) → ResponseFacts t false s l left p x → MeasuredResponse strict t s p x
     → ((a : Answer) (n : ℕ) → x ≡ answered a n → isElement a ≡ false → n ≡ 0) → ((a : Search) (n : ℕ) → x ≡ searched a n → ⊥)
     → ((end : WaitingEnd) (n f : ℕ) (m : Started) (rest : List Started) → x ≡ answered (answer.Event (event.End end)) n → l ≡ m ∷ rest → m .end ≡ Number f → f ≤ p)
     → allOf (startedBy t s x ever) ≡ true → allOf l ≡ true → TopAt g l p → TopAt (topBy t s l x g) (afterResponse t s x l) (p + takenIn x)
 unfolding every
-told-top t s l left p g (answered (answer.Event (event.Start y o)) n) ever f m none unsearched full ks kl at =
+told-top strict t s l left p g (answered (answer.Event (event.Start y o)) n) ever f m none unsearched full ks kl at =
     start-top t s y o n p l g m (f .1 .offset) (f .1 .inside) (both (isKnown (declaredEnd t o s)) (allOf ever) ks .left) at
-told-top t s l left p g (answered (answer.Event (event.End end)) n) ever f m none unsearched full ks kl at =
+told-top strict t s l left p g (answered (answer.Event (event.End end)) n) ever f m none unsearched full ks kl at =
     end-top t s end n p l g (none _ n refl refl) kl (λ e m' rest q u. full end n e m' rest refl q u) at
-told-top t s l left p g (answered (answer.Event (event.Data y o v)) n) ever f m none unsearched full ks kl at = data-top t s y o n p v l g m (f .1 .offset) (f .1 .inside) at
-told-top t s l left p g (answered (answer.NeedMore missing) n) ever f m none unsearched full ks kl at = same-top g l p n (none _ n refl refl) at
-told-top t s l left p g (answered answer.Finished n) ever f m none unsearched full ks kl at = same-top g l p n (none _ n refl refl) at
-told-top t s l left p g (answered (answer.Refused r) n) ever f m none unsearched full ks kl at = same-top g l p n (none _ n refl refl) at
-told-top t s l left p g (searched a n) ever f m none unsearched full ks kl at = absurd (unsearched a n refl)
-told-top t s l left p g silent ever f m none unsearched full ks kl at = same-top g l p 0 refl at
+told-top strict t s l left p g (answered (answer.Event (event.Data y o v)) n) ever f m none unsearched full ks kl at = data-top strict t s y o n p v l g m (f .1 .offset) (f .1 .inside) at
+told-top strict t s l left p g (answered (answer.NeedMore missing) n) ever f m none unsearched full ks kl at = same-top g l p n (none _ n refl refl) at
+told-top strict t s l left p g (answered answer.Finished n) ever f m none unsearched full ks kl at = same-top g l p n (none _ n refl refl) at
+told-top strict t s l left p g (answered (answer.Refused r) n) ever f m none unsearched full ks kl at = same-top g l p n (none _ n refl refl) at
+told-top strict t s l left p g (searched a n) ever f m none unsearched full ks kl at = absurd (unsearched a n refl)
+told-top strict t s l left p g silent ever f m none unsearched full ks kl at = same-top g l p 0 refl at
 
 -- those that are open stay of known size
 told-known : (t : List Entry) (s : List ℕ) (l ever : List Started) (x : Response) → ((a : Search) (n : ℕ) → x ≡ searched a n → ⊥) → allOf (startedBy t s x ever) ≡ true
@@ -196,7 +196,7 @@ module _ (es ps : List ℕ) where
       let known = known-before cs c none k in
       let off : d .settings .«allow_oversized» ≡ false = not-false _ (test-after es ps (run .checked) cs (run .octets .1) ∙ never-off-on cs (b .right)) in
       let f = subst (λ (x : Bool). ResponseFacts t x (lent c) (openAt es ps cs) (leftAt es ps cs c) (positionAt es ps cs) (responseTo es ps d c)) off (promised-after es ps cs c run .promised) in
-      told-top t (lent c) (openAt es ps cs) (leftAt es ps cs c) (positionAt es ps cs) (lastTopEnd t (history es ps cs)) (lastResponse es ps cs c) ever f (promised-after es ps cs c run .measured)
+      told-top _ t (lent c) (openAt es ps cs) (leftAt es ps cs c) (positionAt es ps cs) (lastTopEnd t (history es ps cs)) (lastResponse es ps cs c) ever f (promised-after es ps cs c run .measured)
       (takes-none es ps d c) unsearched (λ end n e m rest q u v. end-is-full es ps cs c run (b .right) end e m rest (n, q) u v) k (known-open cs (r .right) known)
       (top-at cs before (b .right) (r .right) known)
 

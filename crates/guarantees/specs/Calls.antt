@@ -15,17 +15,18 @@ use Rattle.decoder_rules.specs.declared.types.Optional.{Optional}
 use Rattle.decoder_rules.specs.declared.types.Search.{Search}
 use Rattle.decoder_rules.specs.declared.types.Search.the-variants as search
 use Rattle.decoder_rules.specs.declared.types.TagDecoder.{TagDecoder}
-use Rattle.decoder_rules.specs.Settings.{allowing, limitedTo}
+use Rattle.decoder_rules.specs.Settings.{allowing, reading, limitedTo}
 
 -- ---- a call, and what it answers
 
 -- a call: decode, end of input and recovery, each with the bytes lent at it; the settings: the tests that are switched
--- off (unknown IDs, hierarchy, child sizes), and the greatest size
+-- off (unknown IDs, hierarchy, child sizes), strict or as ported, and the greatest size
 pub data Call : Type 0 where
   decoding : List ℕ → Call
   ending : List ℕ → Call
   recovering : List ℕ → Call
   allow : Bool → Bool → Bool → Call
+  strictly : Bool → Call
   limit : Optional → Call
 
 -- the bytes lent at a call
@@ -34,6 +35,7 @@ lent (decoding s) = s
 lent (ending s) = s
 lent (recovering s) = s
 lent (allow ids hierarchy oversized) = []
+lent (strictly b) = []
 lent (limit n) = []
 
 -- what a call answers, with the count of bytes taken; a setting answers nothing
@@ -49,6 +51,7 @@ module _ (es ps : List ℕ) where
   responseTo d (ending s) = answered (decodeEof es ps d s .answer) (decodeEof es ps d s .taken)
   responseTo d (recovering s) = searched (tryRecover es ps d s .answer) (tryRecover es ps d s .taken)
   responseTo d (allow ids hierarchy oversized) = silent
+  responseTo d (strictly b) = silent
   responseTo d (limit n) = silent
 
   -- the record after this call on it
@@ -57,6 +60,7 @@ module _ (es ps : List ℕ) where
   next d (ending s) = decodeEof es ps d s .state
   next d (recovering s) = tryRecover es ps d s .state
   next d (allow ids hierarchy oversized) = allowing d ids hierarchy oversized
+  next d (strictly b) = reading d b
   next d (limit n) = limitedTo d n
 
 -- the same of what any call answers

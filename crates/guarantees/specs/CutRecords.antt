@@ -19,7 +19,7 @@ use Rattle.decoder_rules.specs.declared.types.Event.the-variants as event
 use Rattle.decoder_rules.specs.declared.types.Optional.{Optional}
 use Rattle.decoder_rules.specs.declared.types.Optional.the-variants.{Nothing, Number}
 use Rattle.decoder_rules.specs.declared.types.WaitingEnd.{WaitingEnd}
-use Rattle.guarantees.specs.Calls.{Call, decoding, ending, recovering, allow, limit, lent, Response, answered, searched, silent, Step, recordAfter, history, Lent}
+use Rattle.guarantees.specs.Calls.{Call, decoding, ending, recovering, allow, strictly, limit, lent, Response, answered, searched, silent, Step, recordAfter, history, Lent}
 use Rattle.guarantees.specs.History.{Started, declaredEnd, startsOpen, childTestNeverOff, neverRecovered}
 use Rattle.guarantees.specs.Promises.{Answers, openAt, positionAt}
 
@@ -32,6 +32,7 @@ LendsNext s p (decoding b) = (rest : List ℕ) × (b ++ rest ≡ drop p s)
 LendsNext s p (ending b) = b ≡ drop p s
 LendsNext s p (recovering b) = ⊥
 LendsNext s p (allow ids hierarchy oversized) = Unit {0}
+LendsNext s p (strictly b) = Unit {0}
 LendsNext s p (limit n) = Unit {0}
 
 -- these calls read the record s in order, in any pieces, with any settings at any time

@@ -19,7 +19,7 @@ use Rattle.decoder_rules.specs.declared.types.Optional.the-variants.{Number}
 use Rattle.decoder_rules.specs.declared.types.TagDecoder.{TagDecoder}
 use Rattle.decoder_rules.specs.declared.types.WaitingEnd.{WaitingEnd}
 use Rattle.guarantees.specs.Calls.{Call, ending, lent, answered, Step, recordAfter, history, Lent, refusalOf}
-use Rattle.guarantees.specs.Settling.{seenParents}
+use Rattle.guarantees.specs.Settling.{isStrictAfter, seenParents}
 use Rattle.guarantees.specs.History.{declaredEnd, startsDeclared, parentsLeft, childTestNeverOff, neverRecovered}
 use Rattle.guarantees.specs.Promises.{eventKind, eventId, elementOffset, lastResponse, Answers, openAt, leftAt, positionAt, HeaderOf, HeaderAlone, WholeData, onlyLoose, EndMatches, EndsInside, NotFull, EndOr23, endingAgain, atTheEnd}
 use Rattle.guarantees.specs.Counts.{ChildCounts}
@@ -44,7 +44,7 @@ pub record Demand3 (es ps : List ℕ) : Type 1 where
   pub start-takes-header : (cs : List Call) (c : Call) → Lent (c ∷ cs) → (x o n : ℕ) → lastResponse es ps cs c ≡ answered (Event (Start x o)) n → HeaderAlone (tableOf es ps) (lent c) n
   -- a Data lay whole in the bytes lent, is taken whole, and its value is that of its payload
   pub data-whole : (cs : List Call) (c : Call) → Lent (c ∷ cs) → (x o n : ℕ) (v : TagValue) → lastResponse es ps cs c ≡ answered (Event (Data x o v)) n
-      → WholeData (tableOf es ps) (lent c) o n v
+      → WholeData (isStrictAfter (history es ps cs)) (tableOf es ps) (lent c) o n v
   -- 3. Each End names the last Start still open or, where none is open, the innermost parent left of those implied
   -- because reading began below the root; Start and its End also agree in offset, and an implied parent's is 0
   pub end-matches : (cs : List Call) (c : Call) → Lent (c ∷ cs) → (end : WaitingEnd) → Answers es ps cs c (Event (End end)) → EndMatches (openAt es ps cs) (leftAt es ps cs c) end

@@ -19,7 +19,7 @@ use Rattle.decoder_rules.specs.declared.types.Optional.{Optional}
 use Rattle.decoder_rules.specs.declared.types.Optional.the-variants.{Nothing, Number}
 use Rattle.decoder_rules.specs.declared.types.Search.{Search}
 use Rattle.decoder_rules.specs.declared.types.Search.the-variants as search
-use Rattle.guarantees.specs.Calls.{Call, decoding, ending, recovering, allow, limit, lent, Response, answered, searched, silent, Step}
+use Rattle.guarantees.specs.Calls.{Call, decoding, ending, recovering, allow, strictly, limit, lent, Response, answered, searched, silent, Step}
 use Rattle.guarantees.specs.Settling.{seenParents}
 
 -- ---- where an element ends
@@ -160,6 +160,7 @@ testAfter (decoding s) on = on
 testAfter (ending s) on = on
 testAfter (recovering s) on = on
 testAfter (allow ids hierarchy oversized) on = not oversized
+testAfter (strictly b) on = on
 testAfter (limit n) on = on
 
 -- the child-size test is on after these calls; it is on at first
@@ -178,6 +179,7 @@ isNoRecovery (decoding s) = true
 isNoRecovery (ending s) = true
 isNoRecovery (recovering s) = false
 isNoRecovery (allow ids hierarchy oversized) = true
+isNoRecovery (strictly b) = true
 isNoRecovery (limit n) = true
 
 -- no call was a recovery

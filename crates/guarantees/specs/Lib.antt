@@ -3,6 +3,7 @@ pub mod Settling
 pub mod History
 pub mod Promises
 pub mod Counts
+pub mod UnknownEnds
 pub mod Results
 pub mod CutRecords
 pub mod Appearing

@@ -105,15 +105,16 @@ pub record HeaderAlone (t : List Entry) (s : List ℕ) (n : ℕ) : Type 0 where
   pub no-more : n ≡ its .len
 
 -- n bytes at the front of s are one whole element at offset o: a header of known size and as much payload as it says,
--- of which v is the value; a range in v is the payload's place in the stream
-pub record WholeData (t : List Entry) (s : List ℕ) (o n : ℕ) (v : TagValue) : Type 0 where
+-- of which v is the value, strictly or as ported; a range in v is the payload's place in the stream, strictly that of a
+-- text before its first zero byte
+pub record WholeData (strict : Bool) (t : List Entry) (s : List ℕ) (o n : ℕ) (v : TagValue) : Type 0 where
   pub its : TagHeader
   pub read : readHeader t s ≡ Header its
   pub size : ℕ
   pub known : its .size ≡ Known size
   pub count : n ≡ its .len + size
   pub within : n ≤ length s
-  pub value : valueOf (its .kind) (take size (drop (its .len) s)) (record { begin = o + its .len; end = o + n }) ≡ Value v
+  pub value : valueOf strict (its .kind) (take size (drop (its .len) s)) (record { begin = o + its .len; end = o + n }) ≡ Value v
 
 -- an event that settles nothing: a Data whose ID has no type, or a Global in its path
 abbrev pub isLoose : List Entry → Event → Bool

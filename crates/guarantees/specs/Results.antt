@@ -12,7 +12,7 @@ use denote.Triple.Clauses.{AtExit}
 use Rattle.decoder_rules.specs.Moving.{decode}
 use Rattle.decoder_rules.specs.EndOfInput.{decodeEof}
 use Rattle.decoder_rules.specs.Recovery.{tryRecover}
-use Rattle.decoder_rules.specs.Settings.{allowing, limitedTo}
+use Rattle.decoder_rules.specs.Settings.{allowing, reading, limitedTo}
 use Rattle.decoder_rules.specs.declared.types.Decoded.{Decoded}
 use Rattle.decoder_rules.specs.declared.types.Optional.{Optional}
 use Rattle.decoder_rules.specs.declared.types.Recovered.{Recovered}
@@ -27,12 +27,14 @@ use Rattle.tag_decoder.proofs.settings.new.Kinds as new-kinds
 use Rattle.tag_decoder.proofs.settings.new.Reads as new-contract
 use Rattle.tag_decoder.proofs.settings.allow_errors.Kinds as allow-kinds
 use Rattle.tag_decoder.proofs.settings.allow_errors.Reads as allow-contract
+use Rattle.tag_decoder.proofs.settings.set_strict.Kinds as strict-kinds
+use Rattle.tag_decoder.proofs.settings.set_strict.Reads as strict-contract
 use Rattle.tag_decoder.proofs.settings.set_max_allowable_tag_size.Kinds as max-kinds
 use Rattle.tag_decoder.proofs.settings.set_max_allowable_tag_size.Reads as max-contract
 use Rattle.tag_decoder_lent.specs.Lent.{ReturnsAndLeaves, apart, recoveryApart}
 use Rattle.tag_decoder_lent.specs.declared.types.Reply.{Reply}
 use Rattle.tag_decoder_lent.specs.declared.types.RecoveryReply.{RecoveryReply}
-use Rattle.guarantees.specs.Calls.{Call, decoding, ending, recovering, allow, limit, Response, answered, searched, silent, Step, recordAfter, history}
+use Rattle.guarantees.specs.Calls.{Call, decoding, ending, recovering, allow, strictly, limit, Response, answered, searched, silent, Step, recordAfter, history}
 
 -- ---- a run
 
@@ -90,6 +92,14 @@ pub record AllowReturns (d : TagDecoder) (ids hierarchy oversized : Bool) (e : T
   pub holds : (arguments .0 ≡ d) × (arguments .1 .0 ≡ ids) × (arguments .1 .1 .0 ≡ hierarchy) × (arguments .1 .1 .1 .0 ≡ oversized)
   pub ensured : allow-contract.Post lifetimes arguments e exit
 
+-- `settings::set_strict` may
+pub record StrictReturns (d : TagDecoder) (b : Bool) (e : TagDecoder) : Type 1 where
+  pub lifetimes : Lfts 0
+  pub arguments : Dens lifetimes strict-kinds.ps
+  pub exit : AtExit (endedOf 0 strict-kinds.ps strict-kinds.r) lifetimes
+  pub holds : (arguments .0 ≡ d) × (arguments .1 .0 ≡ b)
+  pub ensured : strict-contract.Post lifetimes arguments e exit
+
 -- `settings::set_max_allowable_tag_size` may
 pub record MaxReturns (d : TagDecoder) (n : Optional) (e : TagDecoder) : Type 1 where
   pub lifetimes : Lfts 0
@@ -104,6 +114,7 @@ pub data ByValue (es ps : List ℕ) (d : TagDecoder) : Call → Response → Tag
   ended : (s : List ℕ) (r : Decoded) → EofReturns es ps d s r → ByValue es ps d (ending s) (answered (r .answer) (r .taken)) (r .state)
   recovered : (s : List ℕ) (r : Recovered) → RecoverReturns es ps d s r → ByValue es ps d (recovering s) (searched (r .answer) (r .taken)) (r .state)
   allowed : (ids hierarchy oversized : Bool) (e : TagDecoder) → AllowReturns d ids hierarchy oversized e → ByValue es ps d (allow ids hierarchy oversized) silent e
+  made-strict : (b : Bool) (e : TagDecoder) → StrictReturns d b e → ByValue es ps d (strictly b) silent e
   limited : (n : Optional) (e : TagDecoder) → MaxReturns d n e → ByValue es ps d (limit n) silent e
 
 -- ---- with the record lent: d before the call, e as the call leaves it
@@ -125,6 +136,10 @@ module _ (es ps : List ℕ) (d : TagDecoder) where
 abbrev pub AllowLeaves : TagDecoder → Bool → Bool → Bool → TagDecoder → Type 0
 AllowLeaves d ids hierarchy oversized e = e ≡ allowing d ids hierarchy oversized
 
+-- `settings::set_strict` may
+abbrev pub StrictLeaves : TagDecoder → Bool → TagDecoder → Type 0
+StrictLeaves d b e = e ≡ reading d b
+
 -- `settings::set_max_allowable_tag_size` may
 abbrev pub MaxLeaves : TagDecoder → Optional → TagDecoder → Type 0
 MaxLeaves d n e = e ≡ limitedTo d n
@@ -135,4 +150,5 @@ pub data ByReference (es ps : List ℕ) (d : TagDecoder) : Call → Response →
   lent-ended : (s : List ℕ) (r : Reply) (e : TagDecoder) → EofLeaves es ps d s r e → ByReference es ps d (ending s) (answered (r .answer) (r .taken)) e
   lent-recovered : (s : List ℕ) (r : RecoveryReply) (e : TagDecoder) → RecoverLeaves es ps d s r e → ByReference es ps d (recovering s) (searched (r .answer) (r .taken)) e
   lent-allowed : (ids hierarchy oversized : Bool) (e : TagDecoder) → AllowLeaves d ids hierarchy oversized e → ByReference es ps d (allow ids hierarchy oversized) silent e
+  lent-made-strict : (b : Bool) (e : TagDecoder) → StrictLeaves d b e → ByReference es ps d (strictly b) silent e
   lent-limited : (n : Optional) (e : TagDecoder) → MaxLeaves d n e → ByReference es ps d (limit n) silent e

@@ -1,6 +1,9 @@
-// Which list the arguments ask for.
+// What the arguments ask for: which list, and how the record is read.
 
 use libc::STDERR_FILENO;
+use reading::arguments::argument;
+use reading::arguments::mode_at;
+use reading::arguments::same;
 
 // The list of document 01, or the one for people.
 pub enum List {
@@ -8,48 +11,54 @@ pub enum List {
     Names,
 }
 
-// The list that is asked for, where there is such a list.
+// The list that is asked for, and whether the record is read strictly, where there is such a list and such a mode.
 pub struct Wanted {
     pub list: List,
+    pub strict: bool,
     pub is_known: bool,
 }
 
-// A list that is there.
+// A list that is there, of the record read as ported.
 fn known(list: List) -> Wanted {
     Wanted {
         list,
+        strict: false,
         is_known: true,
     }
 }
 
-// Whether two words of five letters are the same.
-fn same(a: [u8; 5], b: [u8; 5]) -> bool {
-    a[0] == b[0] && a[1] == b[1] && a[2] == b[2] && a[3] == b[3] && a[4] == b[4]
-}
-
-// The list that a word names, if it has so many letters.
-fn list_named(word: [u8; 5], letters: usize) -> Wanted {
-    if letters == 5 {
-        if same(word, [b'n', b'a', b'm', b'e', b's']) {
-            return known(List::Names);
-        }
-        if same(word, [b'p', b'l', b'a', b'i', b'n']) {
-            return known(List::Plain);
-        }
-    }
-    io::write_all(STDERR_FILENO, b"lister: the list is plain or names\n");
+// What is not there, and the words that say so.
+fn unknown(words: &[u8]) -> Wanted {
+    io::write_all(STDERR_FILENO, words);
     Wanted {
         list: List::Plain,
+        strict: false,
         is_known: false,
     }
 }
 
-// With no argument the list of document 01; with one, the list that it names.
-pub fn list_wanted() -> Wanted {
+// With no argument the list of document 01; with one or more, the list that the first one names.
+fn list_wanted() -> Wanted {
     if os::arg_count() < 2 {
         return known(List::Plain);
     }
-    let mut word = [0u8; 5];
-    let letters = os::arg(1, &mut word);
-    list_named(word, letters)
+    let word = argument(1);
+    if same(word, [b'n', b'a', b'm', b'e', b's', 0]) {
+        return known(List::Names);
+    }
+    if same(word, [b'p', b'l', b'a', b'i', b'n', 0]) {
+        return known(List::Plain);
+    }
+    unknown(b"lister: the list is plain or names\n")
+}
+
+// The list, and the mode that the second argument names, if there is one.
+pub fn what_is_wanted() -> Wanted {
+    let mode = mode_at(2);
+    if mode.is_known {
+        let mut wanted = list_wanted();
+        wanted.strict = mode.strict;
+        return wanted;
+    }
+    unknown(b"lister: the mode is ported or strict\n")
 }

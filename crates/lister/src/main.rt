@@ -3,14 +3,15 @@
 //
 // With no argument it prints the list of document 01. With one, `plain` or `names`, it prints that list or the one for
 // people, and then tells its exit status: a program of this toolchain cannot set one, so the digit goes to descriptor 3,
-// and whoever runs the program exits with it. No digit means 2.
+// and whoever runs the program exits with it. No digit means 2. A second argument, `ported` or `strict`, says how the
+// record is read; without it, as ported.
 
 mod arguments;
 mod status;
 
 ghost use Prim.Native.Nat.{_≤_};
 use arguments::List;
-use arguments::list_wanted;
+use arguments::what_is_wanted;
 use decoder_rules::types::Answer;
 use event_list::lines::MOST_LINE;
 use event_list::lines::put_line;
@@ -133,8 +134,8 @@ fn step(list: List, buffer: &mut [u8], l: Listing, seen: Seen) -> Progress {
 
 // The list, and its status. Nothing says that an input ends, so the steps are counted down from a number that no run
 // uses up.
-fn print_list(list: List, buffer: &mut [u8]) -> u8 {
-    let mut listing = start();
+fn print_list(list: List, strict: bool, buffer: &mut [u8]) -> u8 {
+    let mut listing = start(strict);
     let mut seen = nothing_seen();
     let mut steps_left = u64::MAX;
     while 0 < steps_left {
@@ -151,12 +152,12 @@ fn print_list(list: List, buffer: &mut [u8]) -> u8 {
 
 // The list of standard input.
 fn main() {
-    let wanted = list_wanted();
+    let wanted = what_is_wanted();
     let mut buffer = [0u8; BUFFER_SIZE];
     let mut status = BROKEN;
     if wanted.is_known {
         let list = wanted.list;
-        status = print_list(list, &mut buffer);
+        status = print_list(list, wanted.strict, &mut buffer);
     }
     tell(status);
 }

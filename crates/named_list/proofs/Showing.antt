@@ -1,15 +1,17 @@
 -- Laws of indentation and of text as it is shown. Assumes nothing.
-use Prim.Native.Nat.{ℕ, zero, suc, _+_, _-_, _*_, _≤_, _<_}
-use mathlib.Core.Path.{_≡_, refl, ap, subst, _∙_}
+use Prim.Native.Nat.{ℕ, zero, suc, _+_, _-_, _*_, _≤_, _<_, min}
+use mathlib.Core.Path.{_≡_, refl, sym, ap, subst, _∙_}
 use mathlib.Core.List.{List, [], _∷_, _++_}
 use native.Mathlib.Numerals.{add-one}
 use native.Mathlib.Omega.{arith}
-use lib.ListN.{length, take, drop, getD, replicate, length-replicate, length-drop}
+use native.Mathlib.Decide.{decLe}
+use lib.ListN.{length, take, drop, getD, replicate, length-replicate, length-take, length-drop}
 use lib.Seq.{take-all}
+use Rattle.tag_parse.specs.declared.types.Range.{Range}
 use Rattle.numerals.specs.Puts.{Puts}
 use Rattle.numerals.proofs.Putting.{and-then, within}
 use Rattle.named_list.specs.Words.{indentation, shownOctet, shownUpTo, shown}
-use Rattle.named_list.specs.Named.{lastBytes}
+use Rattle.named_list.specs.Named.{bytesOf}
 
 -- past its end a list has the default
 pub getD-past : (s : List ℕ) (i : ℕ) → length s ≤ i → getD s i 0 ≡ 0
@@ -49,12 +51,18 @@ shown-next s i {at} {r} {r'} {x} {y} {z} {o} {o₀} {o'} ex ey ez p q =
     let w = within {n = 4 * (i + 1)} (omega arith) (and-then p (rw (ex, ey, ez) at q)) in
     rw (ap (shownUpTo s) (add-one i)) w
 
--- the last n bytes, from the place k on, as they are shown
-pub last-put : (s : List ℕ) (n : ℕ) {k at r : ℕ} {o o₀ : List ℕ} → k ≡ length s - n
-    → Puts (4 * length (take (length s - k) (drop k s))) r o o₀ at (shown (take (length s - k) (drop k s))) → Puts (4 * length s) r o o₀ at (shown (lastBytes n s))
-last-put s n {k} {at} {r} {o} {o₀} e p =
-    let few : length (drop k s) ≤ length s - k = omega (arith, length-drop k s) in
-    let q : Puts (4 * length (drop k s)) r o o₀ at (shown (drop k s)) =
-    subst (λ (l : List ℕ). Puts (4 * length l) r o o₀ at (shown l)) (take-all (length s - k) (drop k s) few) p in
-    let fewer : 4 * length (drop k s) ≤ 4 * length s = omega (arith, length-drop k s) in
-    subst (λ (j : ℕ). Puts (4 * length s) r o o₀ at (shown (drop j s))) e (within fewer q)
+-- the bytes of a range, from the place k up to the place u, as they are shown
+pub range-put : (s : List ℕ) (r : Range) (p : ℕ) {k u at n : ℕ} {o o₀ : List ℕ} → k ≡ length s - (p - r .begin) → u ≡ min (k + (r .end - r .begin)) (length s)
+    → Puts (4 * length (take (u - k) (drop k s))) n o o₀ at (shown (take (u - k) (drop k s))) → Puts (4 * length s) n o o₀ at (shown (bytesOf r p s))
+range-put s r p {k} {u} {at} {n} {o} {o₀} ek eu q =
+    let m = r .end - r .begin in
+    let part : take (u - k) (drop k s) ≡ take m (drop k s) = go (decLe (k + m) (length s)) in
+    let few : 4 * length (take m (drop k s)) ≤ 4 * length s = omega (arith, length-take m (drop k s), length-drop k s) in
+    let q' = subst (λ (l : List ℕ). Puts (4 * length l) n o o₀ at (shown l)) part q in
+    subst (λ (j : ℕ). Puts (4 * length s) n o o₀ at (shown (take m (drop j s)))) ek (within few q')
+  where
+    go : Dec (k + (r .end - r .begin) ≤ length s) → take (u - k) (drop k s) ≡ take (r .end - r .begin) (drop k s)
+    go (yes h) = let e : u - k ≡ r .end - r .begin = omega arith in ap (λ (j : ℕ). take j (drop k s)) e
+    go (no f) =
+        take-all (u - k) (drop k s) (omega (arith, length-drop k s))
+        ∙ sym (take-all (r .end - r .begin) (drop k s) (omega (arith, length-drop k s)))

@@ -1,4 +1,4 @@
--- Document 01, "Refusal numbers", in a few words each.
+-- Document 01, "Refusal numbers", in a few words each; 80 and 81: document 02, CR 11.
 use Prim.Native.Nat.{ℕ}
 use mathlib.Core.Bool.{cond}
 use mathlib.Core.List.{List}
@@ -32,10 +32,17 @@ contentMeaning n =
     (cond (eqb n 21) (ascii "the float has neither 0, 4 nor 8 bytes")
     (ascii "the input ends inside an element")))
 
+-- what 80 and 81 mean: a header that only the strict reading refuses
+unfoldable pub strictMeaning : ℕ → List ℕ
+strictMeaning n =
+    cond (eqb n 80) (ascii "the ID has a wrong form or over 4 bytes")
+    (ascii "the header ends past the end of its master")
+
 -- what a refusal means
 unfoldable pub meaning : ℕ → List ℕ
 meaning n =
     cond (ltb n 14) (innerMeaning n)
     (cond (ltb n 19) (headerMeaning n)
     (cond (ltb n 24) (contentMeaning n)
-    (innerMeaning n)))
+    (cond (ltb n 80) (innerMeaning n)
+    (strictMeaning n))))

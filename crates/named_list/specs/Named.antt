@@ -4,7 +4,7 @@ use Prim.Native.Nat.{ℕ, _+_, _-_, _*_, _^_, min}
 use mathlib.Core.Bool.{Bool, cond}
 use mathlib.Core.List.{List, [], _∷_, _++_}
 use lib.Dec.{eqb, ltb}
-use lib.ListN.{length, drop}
+use lib.ListN.{length, take, drop}
 use Rattle.tag_parse.specs.declared.types.Range.{Range}
 use Rattle.tag_parse.specs.declared.types.TagValue.{TagValue}
 use Rattle.tag_parse.specs.declared.types.TagValue.the-variants.{UnsignedInt, Integer, Utf8, Binary, Float, Raw}
@@ -51,32 +51,32 @@ startText x p m = nameOf x ++ (ascii " " ++ decimal p) ++ ascii ".." ++ endText 
 unfoldable pub endingText : ℕ → ℕ → List ℕ
 endingText x starts = ascii "end of " ++ nameOf x ++ cond (eqb starts 0) (ascii " (its start is missing)") []
 
--- the last n of the bytes taken so far
-abbrev pub lastBytes : ℕ → List ℕ → List ℕ
-lastBytes n s = drop (length s - n) s
+-- the bytes of a range, of those taken so far: they end at the position p
+abbrev pub bytesOf : Range → ℕ → List ℕ → List ℕ
+bytesOf r p s = take (r .end - r .begin) (drop (length s - (p - r .begin)) s)
 
 -- bytes: begin and end
 unfoldable pub bytesText : Range → List ℕ
 bytesText r = (ascii "bytes " ++ decimal (r .begin)) ++ (ascii ".." ++ decimal (r .end))
 
--- a text between quotation marks: its bytes are the last of those taken, since a call that answers it takes them last
-unfoldable pub quotedText : Range → List ℕ → List ℕ
-quotedText r taken = ascii "\"" ++ shown (lastBytes (r .end - r .begin) taken) ++ ascii "\""
+-- a text between quotation marks, with the decoder at position p; read strictly it may end before that
+unfoldable pub quotedText : Range → ℕ → List ℕ → List ℕ
+quotedText r p taken = ascii "\"" ++ shown (bytesOf r p taken) ++ ascii "\""
 
--- a value: a number, a text, or begin and end
-unfoldable pub valueText : TagValue → List ℕ → List ℕ
-valueText (UnsignedInt n) taken = decimal n
-valueText (Integer z) taken = signedDecimal z
-valueText (Utf8 r) taken = quotedText r taken
-valueText (Binary r) taken = bytesText r
-valueText (Float bits) taken = floatText bits
-valueText (Raw r) taken = bytesText r
+-- a value, with the decoder at position p: a number, a text, or begin and end
+unfoldable pub valueText : TagValue → ℕ → List ℕ → List ℕ
+valueText (UnsignedInt n) p taken = decimal n
+valueText (Integer z) p taken = signedDecimal z
+valueText (Utf8 r) p taken = quotedText r p taken
+valueText (Binary r) p taken = bytesText r
+valueText (Float bits) p taken = floatText bits
+valueText (Raw r) p taken = bytesText r
 
 -- an event
 unfoldable pub eventText : Event → TagDecoder → ℕ → List ℕ → List ℕ
 eventText (Start x p) d starts taken = startText x p (innermost d)
 eventText (End e) d starts taken = endingText (e .id) starts
-eventText (Data x p v) d starts taken = nameOf x ++ ascii " " ++ valueText v taken
+eventText (Data x p v) d starts taken = nameOf x ++ ascii " " ++ valueText v (d .position) taken
 
 -- ---- the end of the list
 
@@ -110,6 +110,8 @@ cutId error.FromUtf8Error = Nothing
 cutId error.ReadF64Mismatch = Nothing
 cutId (error.UnexpectedEOF c) = c .id
 cutId error.NotAMaster = Nothing
+cutId error.InvalidIdForm = Nothing
+cutId error.UnknownSizePastEnd = Nothing
 
 -- a refusal, with the decoder at position p
 unfoldable pub refusalText : Refusal → ℕ → List ℕ

@@ -110,54 +110,77 @@ fn put_bytes(range: Range, out: &mut [u8], at: usize) -> usize
     put_words_number(b"..", range.end, out, next)
 }
 
-// Where the last so many of some bytes begin.
-fn last_from(range: Range, count: usize) -> usize
-    ensures { λ r. ⌜ (r ≡ count - (range .end - range .begin)) × (r ≤ count) ⌝ }
+// Where the bytes from an offset on begin, among so many that end at a position.
+fn place_of(offset: u64, position: u64, count: usize) -> usize
+    ensures { λ r. ⌜ (r ≡ count - (position - offset)) × (r ≤ count) ⌝ }
 {
-    if range.end < range.begin {
+    if position < offset {
         return count;
     }
-    let n = range.end - range.begin;
+    let n = position - offset;
     if count as u64 <= n {
         return 0;
     }
     count - n as usize
 }
 
-// A text between quotation marks: the last of the bytes taken.
-fn put_quoted(range: Range, taken: &[u8], out: &mut [u8], at: usize) -> usize
-    requires { ⌜ at + (2 + 4 * length (now taken)) ≤ length (now out) ⌝ }
-    ensures { λ r. ⌜ Puts (2 + 4 * length (now (taken .entry))) r (now (out .exit)) (now (out .entry)) at (quotedText range (now (taken .entry))) ⌝ }
+// Where the bytes of a range end, among so many, if they begin at a place.
+fn place_past(range: Range, from: usize, count: usize) -> usize
+    requires { ⌜ from ≤ count ⌝ }
+    ensures { λ r. ⌜ (r ≡ min (from + (range .end - range .begin)) count) × (from ≤ r) × (r ≤ count) ⌝ }
 {
-    let from = last_from(range, taken.len());
+    if range.end < range.begin {
+        return from;
+    }
+    let n = range.end - range.begin;
+    if (count - from) as u64 <= n {
+        return count;
+    }
+    from + n as usize
+}
+
+// A text between quotation marks, of the bytes taken up to a position.
+fn put_quoted(range: Range, position: u64, taken: &[u8], out: &mut [u8], at: usize) -> usize
+    requires { ⌜ at + (2 + 4 * length (now taken)) ≤ length (now out) ⌝ }
+    ensures { λ r. ⌜ Puts (2 + 4 * length (now (taken .entry))) r (now (out .exit)) (now (out .entry)) at (quotedText range position (now (taken .entry))) ⌝ }
+{
+    let from = place_of(range.begin, position, taken.len());
+    let upto = place_past(range, from, taken.len());
     let after_mark = put(b'"', out, at);
-    let after_text = put_shown(&taken[from..], out, after_mark);
+    let after_text = put_shown(&taken[from..upto], out, after_mark);
     put(b'"', out, after_text)
 }
 
-// A value, with the bytes taken so far.
-fn put_value(value: TagValue, taken: &[u8], out: &mut [u8], at: usize) -> usize
+// A value, with the bytes taken up to a position.
+fn put_value(value: TagValue, position: u64, taken: &[u8], out: &mut [u8], at: usize) -> usize
     requires { ⌜ at + (48 + 4 * length (now taken)) ≤ length (now out) ⌝ }
-    ensures { λ r. ⌜ Puts (48 + 4 * length (now (taken .entry))) r (now (out .exit)) (now (out .entry)) at (valueText value (now (taken .entry))) ⌝ }
+    ensures { λ r. ⌜ Puts (48 + 4 * length (now (taken .entry))) r (now (out .exit)) (now (out .entry)) at (valueText value position (now (taken .entry))) ⌝ }
 {
     match value {
         TagValue::UnsignedInt(n) => put_decimal(n, out, at),
         TagValue::Integer(v) => put_signed(v, out, at),
-        TagValue::Utf8(range) => put_quoted(range, taken, out, at),
+        TagValue::Utf8(range) => put_quoted(range, position, taken, out, at),
         TagValue::Binary(range) => put_bytes(range, out, at),
         TagValue::Float(bits) => put_float(bits, out, at),
         TagValue::Raw(range) => put_bytes(range, out, at),
     }
 }
 
-// An element that holds a value.
-fn put_data(id: u64, value: TagValue, taken: &[u8], out: &mut [u8], at: usize) -> usize
+// An element that holds a value, with the bytes taken up to a position.
+fn put_data(
+    id: u64,
+    value: TagValue,
+    position: u64,
+    taken: &[u8],
+    out: &mut [u8],
+    at: usize,
+) -> usize
     requires { ⌜ at + (65 + 4 * length (now taken)) ≤ length (now out) ⌝ }
-    ensures { λ r. ⌜ Puts (65 + 4 * length (now (taken .entry))) r (now (out .exit)) (now (out .entry)) at (nameOf id ++ ascii " " ++ valueText value (now (taken .entry))) ⌝ }
+    ensures { λ r. ⌜ Puts (65 + 4 * length (now (taken .entry))) r (now (out .exit)) (now (out .entry)) at (nameOf id ++ ascii " " ++ valueText value position (now (taken .entry))) ⌝ }
 {
     let after_name = put_name(id, out, at);
     let after_space = put(b' ', out, after_name);
-    put_value(value, taken, out, after_space)
+    put_value(value, position, taken, out, after_space)
 }
 
 // An event, with the record that it left, the Starts that were open before it and the bytes taken so far.
@@ -175,6 +198,6 @@ pub fn put_event(
     match e {
         Event::Start { id, offset } => put_start(id, offset, innermost_of(d), out, at),
         Event::End(end) => put_ending(end.id, starts, out, at),
-        Event::Data { id, value, .. } => put_data(id, value, taken, out, at),
+        Event::Data { id, value, .. } => put_data(id, value, d.position, taken, out, at),
     }
 }

@@ -34,6 +34,8 @@ fn cut_id(error: DecodeError) -> Optional
         DecodeError::ReadF64Mismatch => Optional::Nothing,
         DecodeError::UnexpectedEOF(cut) => cut.id,
         DecodeError::NotAMaster => Optional::Nothing,
+        DecodeError::InvalidIdForm => Optional::Nothing,
+        DecodeError::UnknownSizePastEnd => Optional::Nothing,
     }
 }
 

@@ -3,7 +3,7 @@
 ghost use Prim.Native.Nat.{_+_, _≤_};
 ghost use lib.ListN.{length};
 ghost use Rattle.numerals.specs.Puts.{Puts};
-ghost use Rattle.named_list.specs.Meaning.{innerMeaning, headerMeaning, contentMeaning, meaning};
+ghost use Rattle.named_list.specs.Meaning.{innerMeaning, headerMeaning, contentMeaning, strictMeaning, meaning};
 use texts::put_text;
 
 // What 10 to 13 and 24 mean.
@@ -47,6 +47,17 @@ fn put_content_meaning(number: u64, out: &mut [u8], at: usize) -> usize
     }
 }
 
+// What 80 and 81 mean.
+fn put_strict_meaning(number: u64, out: &mut [u8], at: usize) -> usize
+    requires { ⌜ at + 48 ≤ length (now out) ⌝ }
+    ensures { λ r. ⌜ Puts 48 r (now (out .exit)) (now (out .entry)) at (strictMeaning number) ⌝ }
+{
+    if number == 80 {
+        return put_text(b"the ID has a wrong form or over 4 bytes", out, at);
+    }
+    put_text(b"the header ends past the end of its master", out, at)
+}
+
 // What a refusal means.
 pub fn put_meaning(number: u64, out: &mut [u8], at: usize) -> usize
     requires { ⌜ at + 48 ≤ length (now out) ⌝ }
@@ -61,5 +72,8 @@ pub fn put_meaning(number: u64, out: &mut [u8], at: usize) -> usize
     if number < 24 {
         return put_content_meaning(number, out, at);
     }
-    put_inner_meaning(number, out, at)
+    if number < 80 {
+        return put_inner_meaning(number, out, at);
+    }
+    put_strict_meaning(number, out, at)
 }

@@ -1,5 +1,7 @@
 // Standard input, read until there is something to say of it. No contract can say which bytes a read gives: the work on
-// them is in functions on slices.
+// them is in functions on slices. And the arguments that the programs share.
+
+pub mod arguments;
 
 ghost use lib.ListN.{length};
 ghost use Rattle.libc.specs.Io.{Moved, Status};

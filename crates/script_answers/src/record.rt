@@ -217,5 +217,6 @@ pub fn put_record(d: TagDecoder, out: &mut [u8]) -> usize
     let after_f = put_state(d, out, after_m);
     let after_open = put_list(b" O=", ListKind::Open, Shown::Item, d, out, after_f);
     let after_waiting = put_list(b" W=", ListKind::Waiting, Shown::Item, d, out, after_open);
-    put_counts(d, out, after_waiting)
+    let after_counts = put_counts(d, out, after_waiting);
+    put_flag(b" x=", d.settings.strict, out, after_counts)
 }

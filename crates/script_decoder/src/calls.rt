@@ -6,6 +6,7 @@ use crate::changes::Change;
 use crate::changes::bad;
 use crate::changes::set_allowance;
 use crate::changes::set_max;
+use crate::changes::set_reading;
 use crate::setting::set_fields;
 use decoder_rules::types::Decoded;
 use decoder_rules::types::Recovered;
@@ -46,6 +47,9 @@ fn is_setting(name: &[u8]) -> bool {
         return true;
     }
     if same(name, b"max") {
+        return true;
+    }
+    if same(name, b"strict") {
         return true;
     }
     same(name, b"set")
@@ -189,6 +193,9 @@ fn change_by(name: &[u8], words: &[u8], d: TagDecoder) -> Change {
     }
     if same(name, b"max") {
         return set_max(words, d);
+    }
+    if same(name, b"strict") {
+        return set_reading(words, d);
     }
     if same(name, b"set") {
         return set_fields(words, d);

@@ -17,6 +17,7 @@ use spec_util::types::OpenTag;
 use spec_util::types::no_tag;
 use tag_decoder::settings::allow_errors;
 use tag_decoder::settings::set_max_allowable_tag_size;
+use tag_decoder::settings::set_strict;
 
 // One item more than there are places only says so.
 const MOST_ITEMS: usize = MOST_OPEN + 1;
@@ -81,6 +82,14 @@ fn is_flag(text: &[u8]) -> bool {
         return true;
     }
     same(text, b"0")
+}
+
+// `d` reading strictly, `1`, or as ported, `0`.
+pub fn set_reading(text: &[u8], d: TagDecoder) -> Change {
+    if !is_flag(text) {
+        return bad(d);
+    }
+    good(set_strict(d, same(text, b"1")))
 }
 
 // `d` settled or not: `1` or `0`.

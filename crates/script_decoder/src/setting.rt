@@ -8,13 +8,14 @@ use crate::changes::set_finished;
 use crate::changes::set_list;
 use crate::changes::set_max;
 use crate::changes::set_position;
+use crate::changes::set_reading;
 use crate::changes::set_settled;
 use decoder_rules::types::TagDecoder;
 use script_answers::record::ListKind;
 use script_text::words::word_end;
 
 // How many keys there are.
-const KEYS: usize = 9;
+const KEYS: usize = 10;
 
 // The record with the fields so far, which keys they have, and whether all are right.
 struct Setting {
@@ -35,6 +36,7 @@ fn key_number(key: u8) -> usize {
         b'W' => 6,
         b'C' => 7,
         b'V' => 8,
+        b'x' => 9,
         _ => KEYS,
     }
 }
@@ -50,6 +52,7 @@ fn change(key: u8, value: &[u8], d: TagDecoder) -> Change {
         b'W' => set_list(ListKind::Waiting, value, d),
         b'C' => set_counts(ListKind::Open, value, d),
         b'V' => set_counts(ListKind::Waiting, value, d),
+        b'x' => set_reading(value, d),
         _ => bad(d),
     }
 }

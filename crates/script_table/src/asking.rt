@@ -1,4 +1,4 @@
-// What is asked of a lent table: `check`, `ended` and `path`.
+// What is asked of a lent table: `check`, `ended` and `path`, and strictly `sended` and `spath`.
 
 ghost use Prim.Native.Nat.{_≤_};
 ghost use lib.ListN.{length};
@@ -14,8 +14,8 @@ use script_text::reading::Number;
 use script_text::reading::read_word;
 use script_text::words::same;
 use script_text::words::word_end;
-use spec_util::ended::is_ended_by;
-use spec_util::walk::validate_tag_path;
+use spec_util::ended::is_ended_in;
+use spec_util::place::validate_tag_path;
 use table::check::check_table;
 use table::check::rule_number;
 use table::types::Checked;
@@ -34,7 +34,9 @@ fn checked(c: Checked, out: &mut [u8]) -> usize
     }
 }
 
+// Whether the second ID ends the first, a master; strictly or as ported.
 fn answer_ended(
+    strict: bool,
     first: &[u8],
     second: &[u8],
     entries: &[u64],
@@ -51,12 +53,14 @@ fn answer_ended(
         return bad_line(out);
     };
     if is_good {
-        return yes_or_no(is_ended_by(entries, parts, master, id), out);
+        return yes_or_no(is_ended_in(strict, entries, parts, master, id), out);
     }
     refused(BAD_SHAPE, out)
 }
 
+// Whether the ID may stand in the STACK; strictly or as ported.
 fn answer_path(
+    strict: bool,
     first: &[u8],
     second: &[u8],
     entries: &[u64],
@@ -77,7 +81,7 @@ fn answer_path(
         let ids = stack.ids;
         let knowns = stack.knowns;
         return yes_or_no(
-            validate_tag_path(entries, parts, id, &ids, &knowns, stack.count),
+            validate_tag_path(strict, entries, parts, id, &ids, &knowns, stack.count),
             out,
         );
     }
@@ -102,10 +106,16 @@ fn answer_pair(
     let first = &words[0..end];
     let second = &words[end + 1..];
     if same(name, b"ended") {
-        return answer_ended(first, second, entries, parts, is_good, out);
+        return answer_ended(false, first, second, entries, parts, is_good, out);
+    }
+    if same(name, b"sended") {
+        return answer_ended(true, first, second, entries, parts, is_good, out);
     }
     if same(name, b"path") {
-        return answer_path(first, second, entries, parts, is_good, out);
+        return answer_path(false, first, second, entries, parts, is_good, out);
+    }
+    if same(name, b"spath") {
+        return answer_path(true, first, second, entries, parts, is_good, out);
     }
     bad_line(out)
 }

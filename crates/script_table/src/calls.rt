@@ -21,7 +21,13 @@ pub fn is_call(name: &[u8]) -> bool {
     if same(name, b"ended") {
         return true;
     }
-    same(name, b"path")
+    if same(name, b"sended") {
+        return true;
+    }
+    if same(name, b"path") {
+        return true;
+    }
+    same(name, b"spath")
 }
 
 // The answer to one line at the front of `out`, and the table that is lent after it.

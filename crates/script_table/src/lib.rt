@@ -1,4 +1,4 @@
-// The calls on a lent table: `table`, which lends one, and `check`, `ended` and `path`, which ask it.
+// The calls on a lent table: `table`, which lends one; `check`, `ended`, `path`, `sended` and `spath`, which ask it.
 
 mod asking;
 pub mod calls;

@@ -1,8 +1,13 @@
 pub mod Walking
 pub mod Shown
+pub mod PlaceShown
+pub mod Tops
 pub mod Endings
 pub mod WalkByRfc
 pub mod EndsByRfc
+pub mod StrictEndings
+pub mod StrictWalkByRfc
+pub mod StrictPlaces
 pub mod Unique
 pub mod Examples
 pub mod RfcExamples

@@ -1,14 +1,15 @@
 -- The open masters in lent words: what stands at each place, and that the walk over them is the walk over any masters
 -- that the words show. Assumes nothing.
-use Prim.Native.Nat.{ℕ, zero, suc, _≤_, _<_, min}
-use mathlib.Core.Path.{_≡_, refl, sym, _∙_}
+use Prim.Native.Nat.{ℕ, zero, suc, _-_, _≤_, _<_, min}
+use mathlib.Core.Path.{_≡_, refl, sym, ap, _∙_}
 use mathlib.Core.Bool.{Bool, false}
-use mathlib.Core.List.{List, [], _∷_}
+use mathlib.Core.List.{List, [], _∷_, reverse}
 use native.Mathlib.Omega.{arith}
-use lib.ListN.{length, getD}
-use Rattle.table.specs.Table.{Entry, pathOf}
+use lib.ListN.{length, getD, take}
+use lib.Seq.{take-all}
+use Rattle.table.specs.Table.{Entry}
 use Rattle.table.specs.declared.types.PathPart.{PathPart}
-use Rattle.spec_util.specs.Walk.{noTag, walkMaster, goOn, walkFrom, validateTagPath, shownAs, mastersShown, ShownIds, Shown}
+use Rattle.spec_util.specs.Walk.{noTag, walkMaster, goOn, walkFrom, endedTops, leftOpen, shownAs, mastersShown, ShownIds, Shown}
 use Rattle.spec_util.specs.declared.types.OpenTag.{OpenTag}
 use Rattle.spec_util.specs.declared.types.Walk.{Walk}
 use Rattle.spec_util.specs.declared.types.Walk.the-variants.{Accept, Refuse, On}
@@ -48,24 +49,24 @@ go-on-same Accept f g same = refl
 go-on-same Refuse f g same = refl
 go-on-same (On marker counter) f g same = same marker counter
 
-module _ (t : List Entry) (path : List PathPart) (id : ℕ) where
+module _ (strict : Bool) (t : List Entry) (path : List PathPart) (id : ℕ) where
   -- masters that agree in their IDs and in whether their sizes are known are walked alike
   pub walk-same : (ms l : List OpenTag) (marker counter : ℕ) → length ms ≡ length l
       → ((i : ℕ) → i < length l → getD ms i noTag .id ≡ getD l i noTag .id)
       → ((i : ℕ) → i < length l → getD ms i noTag .known ≡ getD l i noTag .known)
-      → walkFrom t path id marker counter ms ≡ walkFrom t path id marker counter l
+      → walkFrom strict t path id marker counter ms ≡ walkFrom strict t path id marker counter l
   unfolding walkFrom
   walk-same [] [] marker counter e ids knowns = refl
   walk-same [] (m ∷ l) marker counter e ids knowns = absurd (omega arith)
   walk-same (m ∷ ms) [] marker counter e ids knowns = absurd (omega arith)
   walk-same (m ∷ ms) (k ∷ l) marker counter e ids knowns =
       rw (ids 0 (omega arith), knowns 0 (omega arith))
-      (go-on-same (walkMaster t path id (k .id) (k .known) marker counter) _ _
+      (go-on-same (walkMaster strict t path id (k .id) (k .known) marker counter) _ _
       (λ next soFar. walk-same ms l next soFar (omega arith) (λ i h. ids (suc i) (omega arith)) (λ i h. knowns (suc i) (omega arith))))
 
   -- so the walk over what the words show is the walk over the masters
   pub walk-shown : {ids : List ℕ} {knowns : List Bool} {n : ℕ} {l : List OpenTag} (marker counter : ℕ) → n ≤ length ids → n ≤ length knowns
-      → Shown ids knowns n l → walkFrom t path id marker counter (mastersShown ids knowns n) ≡ walkFrom t path id marker counter l
+      → Shown ids knowns n l → walkFrom strict t path id marker counter (mastersShown ids knowns n) ≡ walkFrom strict t path id marker counter l
   walk-shown {ids} {knowns} {n} {l} marker counter hi hk shown =
       let many = shown .shown-ids .many in
       let len : length (mastersShown ids knowns n) ≡ length l = length-shown ids knowns n ∙ omega arith in
@@ -73,11 +74,17 @@ module _ (t : List Entry) (path : List PathPart) (id : ℕ) where
       (λ i h. shown-id ids knowns n i (omega arith) ∙ shown .shown-ids .ids-are i (omega arith))
       (λ i h. shown-known ids knowns n i (omega arith) ∙ shown .knowns-are i (omega arith))
 
--- and the path is accepted from the words where it is accepted from the masters
-pub validate-shown : (t : List Entry) (id : ℕ) {ids : List ℕ} {knowns : List Bool} {n : ℕ} {l : List OpenTag} → n ≤ length ids → n ≤ length knowns
-    → Shown ids knowns n l → validateTagPath t id (mastersShown ids knowns n) ≡ validateTagPath t id l
-unfolding validateTagPath
-validate-shown t id hi hk shown = walk-shown t (pathOf t id) id 0 0 hi hk shown
+-- the first of the masters that are shown
+pub take-shown : (ids : List ℕ) (knowns : List Bool) (n k : ℕ) → k ≤ length (mastersShown ids knowns n) → take k (mastersShown ids knowns n) ≡ mastersShown ids knowns k
+unfolding mastersShown
+take-shown [] knowns n zero h = refl
+take-shown [] knowns n (suc k) h = absurd (omega arith)
+take-shown (id ∷ ids) [] n zero h = refl
+take-shown (id ∷ ids) [] n (suc k) h = absurd (omega arith)
+take-shown (id ∷ ids) (known ∷ knowns) zero zero h = refl
+take-shown (id ∷ ids) (known ∷ knowns) zero (suc k) h = absurd (omega arith)
+take-shown (id ∷ ids) (known ∷ knowns) (suc n) zero h = refl
+take-shown (id ∷ ids) (known ∷ knowns) (suc n) (suc k) h = ap (λ (l : List OpenTag). shownAs id known ∷ l) (take-shown ids knowns n k (omega arith))
 
 -- and the words show the masters that are read off them
 pub shows-those-read : (ids : List ℕ) (knowns : List Bool) (n : ℕ) → n ≤ length ids → n ≤ length knowns → Shown ids knowns n (mastersShown ids knowns n)
@@ -87,3 +94,14 @@ shows-those-read ids knowns n hi hk =
       shown-ids = record { many = many; ids-are = λ i h. sym (shown-id ids knowns n i (omega arith)) };
       knowns-are = λ i h. sym (shown-known ids knowns n i (omega arith));
     }
+
+-- the masters that an ID leaves open, where the words show `count` of them and `kept` are left
+pub left-shown : (strict : Bool) (t : List Entry) (id : ℕ) (ids : List ℕ) (knowns : List Bool) (n count kept : ℕ) → count ≡ min n (min (length ids) (length knowns))
+    → kept ≡ count - endedTops strict t id (reverse (mastersShown ids knowns count)) → leftOpen strict t id (mastersShown ids knowns n) ≡ mastersShown ids knowns kept
+unfolding leftOpen
+left-shown strict t id ids knowns n count kept e k =
+    let l = mastersShown ids knowns n in
+    let len : length l ≡ count = length-shown ids knowns n ∙ sym e in
+    let same : mastersShown ids knowns count ≡ l = sym (take-shown ids knowns n count (omega arith)) ∙ take-all count l (omega arith) in
+    let left : length l - endedTops strict t id (reverse l) ≡ kept = ap (λ (j : ℕ). j - endedTops strict t id (reverse l)) len ∙ sym (k ∙ ap (λ (m : List OpenTag). count - endedTops strict t id (reverse m)) same) in
+    ap (λ (j : ℕ). take j l) left ∙ take-shown ids knowns n kept (omega arith)

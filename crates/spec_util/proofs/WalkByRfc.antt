@@ -21,7 +21,7 @@ use Rattle.table.specs.declared.types.Bound.{Bound}
 use Rattle.table.specs.declared.types.Bound.the-variants.{NotGiven, Given}
 use Rattle.table.specs.declared.types.PathPart.{PathPart}
 use Rattle.table.specs.declared.types.PathPart.the-variants.{Id, Global}
-use Rattle.spec_util.specs.Walk.{overMax, underMin, isIdAt, walkGlobal, walkAt, walkPart, unknownAndEnded, walkMaster, minMet, walkEnd, goOn, walkFrom, validateTagPath}
+use Rattle.spec_util.specs.Walk.{overMax, underMin, isIdAt, walkGlobal, walkAt, walkPart, unknownAndEnded, walkMaster, minMet, walkEnd, goOn, walkFrom, placeAlong, validateTagPath}
 use Rattle.spec_util.specs.Rfc8794.{inBounds, PathNames, passesAfter, pathNames, globalOnlyLast, staysOpen}
 use Rattle.spec_util.specs.declared.types.OpenTag.{OpenTag}
 use Rattle.spec_util.specs.declared.types.Walk.{Walk}
@@ -118,44 +118,44 @@ last-passes least most n (x ∷ parents) =
 -- ---- the walk
 
 -- what stands at the marker, and after it
-record At (path : List PathPart) (marker : ℕ) (p : PathPart) (rest : List PathPart) : Type 0 where
-  there : marker < length path
-  count : length path ≡ marker + 1 + length rest
-  part : getD path marker (Id 0) ≡ p
-  later : drop (marker + 1) path ≡ rest
+pub record At (path : List PathPart) (marker : ℕ) (p : PathPart) (rest : List PathPart) : Type 0 where
+  pub there : marker < length path
+  pub count : length path ≡ marker + 1 + length rest
+  pub part : getD path marker (Id 0) ≡ p
+  pub later : drop (marker + 1) path ≡ rest
 
-at : (path : List PathPart) (marker : ℕ) (p : PathPart) (rest : List PathPart) → drop marker path ≡ p ∷ rest → At path marker p rest
+pub at : (path : List PathPart) (marker : ℕ) (p : PathPart) (rest : List PathPart) → drop marker path ≡ p ∷ rest → At path marker p rest
 at path marker p rest e =
     let l : length path - marker ≡ suc (length rest) = sym (length-drop marker path) ∙ ap length e in
     let h : marker < length path = omega arith in
     let c = sym (drop-cons path marker (Id 0) h) ∙ e in
     record { there = h; count = omega arith; part = head-eq-of-cons-eq c; later = rw add-one (tail-eq-of-cons-eq c) }
 
-over-more : (most : Bound) (n k : ℕ) → n ≤ k → overMax n most ≡ true → overMax k most ≡ true
+pub over-more : (most : Bound) (n k : ℕ) → n ≤ k → overMax n most ≡ true → overMax k most ≡ true
 unfolding overMax
 over-more NotGiven n k h e = absurd (false≢true e)
 over-more (Given m) n k h e = lt-ltb m k (omega (arith, ltb-true m n e))
 
-over-out : (least most : Bound) (n : ℕ) → overMax n most ≡ true → inBounds least most n ≡ false
+pub over-out : (least most : Bound) (n : ℕ) → overMax n most ≡ true → inBounds least most n ≡ false
 unfolding inBounds
 over-out least most n e = rw e (and-false (not (underMin n least)))
 
 module _ (t : List Entry) (path : List PathPart) (id : ℕ) where
   -- at a master that stays open the walk takes the part at the marker
   walk-on : (m : OpenTag) (ms : List OpenTag) (marker counter : ℕ) → staysOpen t id m ≡ true → marker < length path
-      → walkFrom t path id marker counter (m ∷ ms)
-      ≡ goOn (walkAt path (getD path marker (Id 0)) (m .id) marker counter) (λ next soFar. walkFrom t path id next soFar ms)
+      → walkFrom false t path id marker counter (m ∷ ms)
+      ≡ goOn (walkAt false path (getD path marker (Id 0)) (m .id) marker counter) (λ next soFar. walkFrom false t path id next soFar ms)
   unfolding walkFrom walkMaster walkPart staysOpen
-  walk-on m ms marker counter s h = rw (not-true (unknownAndEnded t (m .known) (m .id) id) s, lt-leb (length path) marker h)
+  walk-on m ms marker counter s h = rw (not-true (unknownAndEnded false t (m .known) (m .id) id) s, lt-leb (length path) marker h)
 
   walk-past : (m : OpenTag) (ms : List OpenTag) (marker counter : ℕ) → staysOpen t id m ≡ true → length path ≤ marker
-      → walkFrom t path id marker counter (m ∷ ms) ≡ false
+      → walkFrom false t path id marker counter (m ∷ ms) ≡ false
   unfolding walkFrom walkMaster walkPart goOn staysOpen
-  walk-past m ms marker counter s h = rw (not-true (unknownAndEnded t (m .known) (m .id) id) s, le-leb (length path) marker h)
+  walk-past m ms marker counter s h = rw (not-true (unknownAndEnded false t (m .known) (m .id) id) s, le-leb (length path) marker h)
 
   -- a Global at the end counts the masters that are left
   module _ (least most : Bound) (marker : ℕ) (a : At path marker (Global least most) []) where
-    ends-in-global : (counter : ℕ) → overMax counter most ≡ false → walkEnd path marker counter ≡ inBounds least most (counter + 0)
+    pub ends-in-global : (counter : ℕ) → overMax counter most ≡ false → walkEnd path marker counter ≡ inBounds least most (counter + 0)
     unfolding walkEnd minMet inBounds
     ends-in-global counter o =
         let z : counter + 0 ≡ counter = omega arith in
@@ -163,7 +163,7 @@ module _ (t : List Entry) (path : List PathPart) (id : ℕ) where
         (sym (and-true (not (underMin counter least))))
 
     walk-global : (ms : List OpenTag) (counter : ℕ) → overMax counter most ≡ false → every (staysOpen t id) ms ≡ true
-        → walkFrom t path id marker counter ms ≡ inBounds least most (counter + length ms)
+        → walkFrom false t path id marker counter ms ≡ inBounds least most (counter + length ms)
     unfolding every walkFrom walkAt walkGlobal isIdAt goOn
     walk-global [] counter o s = ends-in-global counter o
     walk-global (m ∷ ms) counter o s =
@@ -171,8 +171,8 @@ module _ (t : List Entry) (path : List PathPart) (id : ℕ) where
         walk-on m ms marker counter (b .left) (a .there) ∙ go (overMax (counter + 1) most) refl (λ q. walk-global ms (counter + 1) q (b .right))
       where
         go : (b : Bool) → overMax (counter + 1) most ≡ b
-            → (overMax (counter + 1) most ≡ false → walkFrom t path id marker (counter + 1) ms ≡ inBounds least most (counter + 1 + length ms))
-            → goOn (walkAt path (getD path marker (Id 0)) (m .id) marker counter) (λ next soFar. walkFrom t path id next soFar ms)
+            → (overMax (counter + 1) most ≡ false → walkFrom false t path id marker (counter + 1) ms ≡ inBounds least most (counter + 1 + length ms))
+            → goOn (walkAt false path (getD path marker (Id 0)) (m .id) marker counter) (λ next soFar. walkFrom false t path id next soFar ms)
             ≡ inBounds least most (counter + suc (length ms))
         go true q later =
             rw (a .part, q)
@@ -181,23 +181,23 @@ module _ (t : List Entry) (path : List PathPart) (id : ℕ) where
             let z : counter + suc (length ms) ≡ counter + 1 + length ms = omega arith in
             rw (z, a .part, q, le-ltb (marker + 1) (length path) (omega arith)) (later q)
 
-  ends-before : (marker counter x : ℕ) (rest : List PathPart) → At path marker (Id x) rest → walkEnd path marker counter ≡ false
+  pub ends-before : (marker counter x : ℕ) (rest : List PathPart) → At path marker (Id x) rest → walkEnd path marker counter ≡ false
   unfolding walkEnd minMet
   ends-before marker counter x rest a =
       rw (a .part, ne-eqb marker (length path) (λ e. omega arith)) (and-false (eqb (marker + 1) (length path)))
 
-  ends-at-end : (marker counter : ℕ) → marker ≡ length path → walkEnd path marker counter ≡ true
+  pub ends-at-end : (marker counter : ℕ) → marker ≡ length path → walkEnd path marker counter ≡ true
   unfolding walkEnd
   ends-at-end marker counter e = rw (eq-eqb marker (length path) e)
 
-  none-over : (most : Bound) → overMax 0 most ≡ false
+  pub none-over : (most : Bound) → overMax 0 most ≡ false
   unfolding overMax
   none-over NotGiven = refl
   none-over (Given n) = le-ltb n 0 (omega arith)
 
   walk-names-from : (ms : List OpenTag) (marker : ℕ) (rest : List PathPart) → marker ≤ length path → drop marker path ≡ rest
       → globalOnlyLast rest ≡ true → every (staysOpen t id) ms ≡ true
-      → walkFrom t path id marker 0 ms ≡ pathNames rest (map (λ (m : OpenTag). m .id) ms)
+      → walkFrom false t path id marker 0 ms ≡ pathNames rest (map (λ (m : OpenTag). m .id) ms)
   unfolding every walkFrom walkAt goOn pathNames globalOnlyLast
   walk-names-from [] marker [] l e g s =
       let d : length path - marker ≡ 0 = sym (length-drop marker path) ∙ ap length e in
@@ -213,8 +213,8 @@ module _ (t : List Entry) (path : List PathPart) (id : ℕ) where
       ∙ go (a .part) (eqb x (m .id)) refl (walk-names-from ms (marker + 1) rest (omega arith) (a .later) g (b .right))
     where
       go : getD path marker (Id 0) ≡ Id x → (b : Bool) → eqb x (m .id) ≡ b
-          → walkFrom t path id (marker + 1) 0 ms ≡ pathNames rest (map (λ (m : OpenTag). m .id) ms)
-          → goOn (walkAt path (getD path marker (Id 0)) (m .id) marker 0) (λ next soFar. walkFrom t path id next soFar ms)
+          → walkFrom false t path id (marker + 1) 0 ms ≡ pathNames rest (map (λ (m : OpenTag). m .id) ms)
+          → goOn (walkAt false path (getD path marker (Id 0)) (m .id) marker 0) (λ next soFar. walkFrom false t path id next soFar ms)
           ≡ (eqb x (m .id) && pathNames rest (map (λ (m : OpenTag). m .id) ms))
       go p true q later = rw (p, q) later
       go p false q later = rw (p, q)
@@ -234,20 +234,20 @@ module _ (t : List Entry) (id : ℕ) (ms : List OpenTag) where
 
   -- the walk over masters that stay open is the RFC's test, where a Global stands at the path's end or nowhere
   pub walk-names : globalOnlyLast (pathOf t id) ≡ true → every (staysOpen t id) ms ≡ true
-      → validateTagPath t id ms ≡ pathNames (pathOf t id) (map (λ (m : OpenTag). m .id) ms)
-  unfolding validateTagPath
+      → validateTagPath false t id ms ≡ pathNames (pathOf t id) (map (λ (m : OpenTag). m .id) ms)
+  unfolding validateTagPath placeAlong
   walk-names g s = walk-names-from t (pathOf t id) id ms 0 (pathOf t id) (omega arith) refl g s
 
   -- so an ID is accepted in masters of known size exactly where its path names them
   pub accepted-where-named : globalOnlyLast (pathOf t id) ≡ true → every (λ (m : OpenTag). m .known) ms ≡ true
-      → (validateTagPath t id ms ≡ true) ↔ PathNames (pathOf t id) (map (λ (m : OpenTag). m .id) ms)
+      → (validateTagPath false t id ms ≡ true) ↔ PathNames (pathOf t id) (map (λ (m : OpenTag). m .id) ms)
   accepted-where-named g k =
       let e = walk-names g (known-stay k) in
       (λ v. names-sound _ _ (sym e ∙ v), λ p. e ∙ names-complete _ _ p)
 
   -- one whose path is all IDs is accepted in masters that stay open exactly where they are that path
   pub accepted-in-open : onlyIds (pathOf t id) ≡ true → every (staysOpen t id) ms ≡ true
-      → (validateTagPath t id ms ≡ true) ↔ (map (λ (m : OpenTag). m .id) ms ≡ pathIds (pathOf t id))
+      → (validateTagPath false t id ms ≡ true) ↔ (map (λ (m : OpenTag). m .id) ms ≡ pathIds (pathOf t id))
   accepted-in-open o s =
       let e = walk-names (ids-last _ o) s in
       let ids = names-ids (pathOf t id) (map (λ (m : OpenTag). m .id) ms) o in
@@ -255,5 +255,5 @@ module _ (t : List Entry) (id : ℕ) (ms : List OpenTag) where
 
   -- so it is in masters of known size
   pub accepted-in-its-path : onlyIds (pathOf t id) ≡ true → every (λ (m : OpenTag). m .known) ms ≡ true
-      → (validateTagPath t id ms ≡ true) ↔ (map (λ (m : OpenTag). m .id) ms ≡ pathIds (pathOf t id))
+      → (validateTagPath false t id ms ≡ true) ↔ (map (λ (m : OpenTag). m .id) ms ≡ pathIds (pathOf t id))
   accepted-in-its-path o k = accepted-in-open o (known-stay k)

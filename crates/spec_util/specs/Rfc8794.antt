@@ -2,11 +2,12 @@
 -- 6.2). What is decoded goes by Walk.antt and Ended.antt, as the Rust does; laws say where the two agree, and worked
 -- examples where they do not.
 use Prim.Native.Nat.{ℕ, _+_, _-_}
-use mathlib.Core.Bool.{Bool, true, false, not, _&&_, _||_}
+use mathlib.Core.Bool.{Bool, true, false, cond, not, _&&_, _||_}
 use mathlib.Core.List.{List, [], _∷_, _++_, List·Memᴰ}
 use mathlib.Core.Path.{_≡_}
 use lib.Dec.{eqb}
 use lib.ListN.{length, drop}
+use Rattle.basics.specs.Lists.{any}
 use Rattle.table.specs.Table.{Entry, dataTypeOf, pathOf, samePath, isTyped}
 use Rattle.table.specs.Check.{onlyIds}
 use Rattle.table.specs.declared.types.Bound.{Bound}
@@ -49,9 +50,36 @@ globalOnlyLast [] = true
 globalOnlyLast (Id x ∷ path) = globalOnlyLast path
 globalOnlyLast (Global least most ∷ path) = eqb (length path) 0
 
+-- no two Globals stand side by side
+unfoldable pub globalsApart : List PathPart → Bool
+globalsApart [] = true
+globalsApart (Id x ∷ path) = globalsApart path
+globalsApart (Global least most ∷ []) = true
+globalsApart (Global least most ∷ Id x ∷ path) = globalsApart path
+globalsApart (Global least most ∷ Global low high ∷ path) = false
+
+-- these parents are different from each other
+unfoldable pub allDifferent : List ℕ → Bool
+allDifferent [] = true
+allDifferent (x ∷ parents) = not (any (eqb x) parents) && allDifferent parents
+
+-- this ID is among the parents at most once
+unfoldable pub atMostOnce : ℕ → List ℕ → Bool
+atMostOnce x [] = true
+atMostOnce x (y ∷ parents) = cond (eqb x y) (not (any (eqb x) parents)) (atMostOnce x parents)
+
+-- where a Global ends can be seen from the next ID: a Global is the path's last part, or the part after it is an ID that
+-- is among the parents at most once
+unfoldable pub readOneWay : List PathPart → List ℕ → Bool
+readOneWay [] parents = true
+readOneWay (Id x ∷ path) parents = readOneWay path parents
+readOneWay (Global least most ∷ []) parents = true
+readOneWay (Global least most ∷ Id x ∷ path) parents = atMostOnce x parents && readOneWay path parents
+readOneWay (Global least most ∷ Global low high ∷ path) parents = false
+
 -- the open master is not one of unknown size that the ID ends, so the walk does not stop at it
 unfoldable pub staysOpen : List Entry → ℕ → OpenTag → Bool
-staysOpen t id m = not (unknownAndEnded t (m .known) (m .id) id)
+staysOpen t id m = not (unknownAndEnded false t (m .known) (m .id) id)
 
 -- ---- section 6.2: where an element of unknown size ends
 

@@ -1,17 +1,17 @@
 -- The path walk of an ID along its path: document 01, "One call of the decoder", "Path walk".
 use Prim.Native.Nat.{ℕ, zero, suc, _+_, _-_, _^_, _<_, min}
 use mathlib.Core.Bool.{Bool, true, false, cond, not, _&&_, _||_}
-use mathlib.Core.List.{List, [], _∷_}
+use mathlib.Core.List.{List, [], _∷_, reverse}
 use mathlib.Core.Path.{_≡_}
 use lib.Dec.{leb, ltb, eqb}
-use lib.ListN.{length, getD}
-use Rattle.basics.specs.Lists.{arrayPlaces}
+use lib.ListN.{length, getD, take}
+use Rattle.basics.specs.Lists.{arrayPlaces, every}
 use Rattle.table.specs.Table.{Entry, pathOf}
 use Rattle.table.specs.declared.types.Bound.{Bound}
 use Rattle.table.specs.declared.types.Bound.the-variants.{NotGiven, Given}
 use Rattle.table.specs.declared.types.PathPart.{PathPart}
 use Rattle.table.specs.declared.types.PathPart.the-variants.{Id, Global}
-use Rattle.spec_util.specs.Ended.{isIdOf, isEndedBy}
+use Rattle.spec_util.specs.Ended.{isIdOf, isEndedIn}
 use Rattle.spec_util.specs.declared.types.OpenTag.{OpenTag}
 use Rattle.spec_util.specs.declared.types.Walk.{Walk}
 use Rattle.spec_util.specs.declared.types.Walk.the-variants.{Accept, Refuse, On}
@@ -55,24 +55,33 @@ walkGlobal path master marker n least most =
     (cond (underMin n least) Refuse (On (marker + 2) 0))
     (On marker n))
 
--- "ID part: equal, marker +1, else refuse"
-unfoldable pub walkAt : List PathPart → PathPart → ℕ → ℕ → ℕ → Walk
-walkAt path (Id x) master marker counter = cond (eqb x master) (On (marker + 1) counter) Refuse
-walkAt path (Global least most) master marker counter = walkGlobal path master marker (counter + 1) least most
+-- strictly, document 02, CR 11: "The Global counter counts only the parents between the ID parts", so a master that is
+-- the next part is not counted, for max neither; n is the counter without this master
+unfoldable pub walkGlobalStrictly : List PathPart → ℕ → ℕ → ℕ → Bound → Bound → Walk
+walkGlobalStrictly path master marker n least most =
+    cond (isIdAt path (marker + 1) master)
+    (cond (underMin n least) Refuse (On (marker + 2) 0))
+    (cond (overMax (n + 1) most) Refuse (On marker (n + 1)))
+
+-- "ID part: equal, marker +1, else refuse"; a Global strictly or as ported
+unfoldable pub walkAt : Bool → List PathPart → PathPart → ℕ → ℕ → ℕ → Walk
+walkAt strict path (Id x) master marker counter = cond (eqb x master) (On (marker + 1) counter) Refuse
+walkAt strict path (Global least most) master marker counter =
+    cond strict (walkGlobalStrictly path master marker counter least most) (walkGlobal path master marker (counter + 1) least most)
 
 -- "Marker past the path: refuse"
-unfoldable pub walkPart : List PathPart → ℕ → ℕ → ℕ → Walk
-walkPart path master marker counter =
-    cond (leb (length path) marker) Refuse (walkAt path (getD path marker (Id 0)) master marker counter)
+unfoldable pub walkPart : Bool → List PathPart → ℕ → ℕ → ℕ → Walk
+walkPart strict path master marker counter =
+    cond (leb (length path) marker) Refuse (walkAt strict path (getD path marker (Id 0)) master marker counter)
 
--- "Unknown and ended by the new ID"
-unfoldable pub unknownAndEnded : List Entry → Bool → ℕ → ℕ → Bool
-unknownAndEnded t known master id = not known && isEndedBy t master id
+-- "Unknown and ended by the new ID", strictly or as ported
+unfoldable pub unknownAndEnded : Bool → List Entry → Bool → ℕ → ℕ → Bool
+unknownAndEnded strict t known master id = not known && isEndedIn strict t master id
 
--- "Unknown and ended by the new ID: accept at once", tested first at each master
-unfoldable pub walkMaster : List Entry → List PathPart → ℕ → ℕ → Bool → ℕ → ℕ → Walk
-walkMaster t path id master known marker counter =
-    cond (unknownAndEnded t known master id) Accept (walkPart path master marker counter)
+-- as ported, "Unknown and ended by the new ID: accept at once", tested first at each master; strictly no master accepts
+unfoldable pub walkMaster : Bool → List Entry → List PathPart → ℕ → ℕ → Bool → ℕ → ℕ → Walk
+walkMaster strict t path id master known marker counter =
+    cond (not strict && unknownAndEnded false t known master id) Accept (walkPart strict path master marker counter)
 
 -- ---- the end
 
@@ -95,14 +104,32 @@ goOn Refuse rest = false
 goOn (On marker counter) rest = rest marker counter
 
 -- the masters that are left, outermost first
-unfoldable pub walkFrom : List Entry → List PathPart → ℕ → ℕ → ℕ → List OpenTag → Bool
-walkFrom t path id marker counter [] = walkEnd path marker counter
-walkFrom t path id marker counter (m ∷ ms) =
-    goOn (walkMaster t path id (m .id) (m .known) marker counter) (λ next soFar. walkFrom t path id next soFar ms)
+unfoldable pub walkFrom : Bool → List Entry → List PathPart → ℕ → ℕ → ℕ → List OpenTag → Bool
+walkFrom strict t path id marker counter [] = walkEnd path marker counter
+walkFrom strict t path id marker counter (m ∷ ms) =
+    goOn (walkMaster strict t path id (m .id) (m .known) marker counter) (λ next soFar. walkFrom strict t path id next soFar ms)
 
--- "from the outermost open master, marker 0, counter 0"
-unfoldable pub validateTagPath : List Entry → ℕ → List OpenTag → Bool
-validateTagPath t id masters = walkFrom t (pathOf t id) id 0 0 masters
+-- how many of these masters, the top first, the ID ends before one stays open
+unfoldable pub endedTops : Bool → List Entry → ℕ → List OpenTag → ℕ
+endedTops strict t id [] = 0
+endedTops strict t id (m ∷ l) = cond (unknownAndEnded strict t (m .known) (m .id) id) (endedTops strict t id l + 1) 0
+
+-- the masters that the ID leaves open, of those that are, outermost first
+unfoldable pub leftOpen : Bool → List Entry → ℕ → List OpenTag → List OpenTag
+leftOpen strict t id masters = take (length masters - endedTops strict t id (reverse masters)) masters
+
+-- as ported, "from the outermost open master, marker 0, counter 0"; strictly over the masters that the ID leaves open,
+-- none of which it may end: it "refuses an ID that ends an open master but not every one above it"
+unfoldable pub placeAlong : Bool → List Entry → List PathPart → ℕ → List OpenTag → Bool
+placeAlong strict t path id masters =
+    cond strict
+    (every (λ m. not (unknownAndEnded true t (m .known) (m .id) id)) (leftOpen true t id masters)
+    && walkFrom true t path id 0 0 (leftOpen true t id masters))
+    (walkFrom false t path id 0 0 masters)
+
+-- the same along the ID's own path
+unfoldable pub validateTagPath : Bool → List Entry → ℕ → List OpenTag → Bool
+validateTagPath strict t id masters = placeAlong strict t (pathOf t id) id masters
 
 -- ---- the open masters in lent words
 

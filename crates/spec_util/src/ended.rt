@@ -2,8 +2,9 @@
 
 ghost use mathlib.Core.Path.{_≡_};
 ghost use Rattle.table.specs.Table.{tableOf};
-ghost use Rattle.spec_util.specs.Ended.{isParent, isSibling, isEndedBy};
+ghost use Rattle.spec_util.specs.Ended.{isParent, isSibling, isEndedBy, isEndedStrictly, isEndedIn};
 use crate::ids::has_id;
+use table::check::only_ids;
 use table::lookup::get_path_by_id;
 use table::lookup::is_typed;
 use table::lookup::look_up;
@@ -46,4 +47,36 @@ pub fn is_ended_by(entries: &[u64], parts: &[u64], current_id: u64, test_id: u64
         return false;
     }
     is_typed(kind)
+}
+
+// The same strictly: `test_id` has a type, and no Global in its path.
+pub fn is_ended_strictly(entries: &[u64], parts: &[u64], current_id: u64, test_id: u64) -> bool
+    ensures { λ r. ⌜ r ≡ isEndedStrictly (tableOf (now (entries .entry)) (now (parts .entry))) «current_id» «test_id» ⌝ }
+{
+    let test = look_up(entries, parts, test_id);
+    let kind = test.kind;
+    let path = test.path;
+    if !is_typed(kind) {
+        return false;
+    }
+    if !only_ids(parts, path) {
+        return false;
+    }
+    is_ended_by(entries, parts, current_id, test_id)
+}
+
+// Strictly or as ported.
+pub fn is_ended_in(
+    strict: bool,
+    entries: &[u64],
+    parts: &[u64],
+    current_id: u64,
+    test_id: u64,
+) -> bool
+    ensures { λ r. ⌜ r ≡ isEndedIn strict (tableOf (now (entries .entry)) (now (parts .entry))) «current_id» «test_id» ⌝ }
+{
+    if strict {
+        return is_ended_strictly(entries, parts, current_id, test_id);
+    }
+    is_ended_by(entries, parts, current_id, test_id)
 }

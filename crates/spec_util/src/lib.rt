@@ -3,5 +3,6 @@
 
 pub mod ended;
 mod ids;
+pub mod place;
 pub mod types;
 pub mod walk;

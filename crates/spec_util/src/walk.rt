@@ -1,16 +1,16 @@
-// `validate_tag_path` of spec_util.rs over lent words, its walk for a caller that has the path at hand, and the walk's
-// steps.
+// The path walk of spec_util.rs over lent words, and its steps.
 
+ghost use mathlib.Core.Bool.{false, not, _&&_};
 ghost use mathlib.Core.Path.{_≡_};
 ghost use Prim.Native.Nat.{_-_, _^_, min, _<_};
 ghost use lib.ListN.{length};
 ghost use Rattle.table.specs.Table.{tableOf, partsOf, partsIn};
-ghost use Rattle.spec_util.specs.Walk.{mostOpen, overMax, underMin, isIdAt, walkGlobal, walkPart, countedOf, unknownAndEnded, walkMaster, minMet, walkEnd, walkFrom, mastersShown, validateTagPath};
-use crate::ended::is_ended_by;
+ghost use Rattle.table.specs.declared.types.PathPart.the-variants.{Global};
+ghost use Rattle.spec_util.specs.Walk.{mostOpen, overMax, underMin, isIdAt, walkGlobal, walkGlobalStrictly, walkAt, walkPart, countedOf, unknownAndEnded, walkMaster, minMet, walkEnd, walkFrom, mastersShown};
+use crate::ended::is_ended_in;
 use crate::ids::is_id_of;
 use crate::types::MOST_OPEN;
 use crate::types::Walk;
-use table::lookup::get_path_by_id;
 use table::parts::path_length;
 use table::parts::path_part;
 use table::types::Bound;
@@ -75,10 +75,68 @@ fn walk_global(
     }
 }
 
+// A master at a Global, strictly; n does not count it.
+fn walk_global_strictly(
+    parts: &[u64],
+    path: Path,
+    master_id: u64,
+    marker: usize,
+    n: u64,
+    least: Bound,
+    most: Bound,
+) -> Walk
+    requires { ⌜ (marker < length (partsIn (partsOf (now parts)) path)) × (n < 2 ^ 64 - 1) ⌝ }
+    ensures { λ r. ⌜ r ≡ walkGlobalStrictly (partsIn (partsOf (now (parts .entry))) path) «master_id» marker n least most ⌝ }
+{
+    if is_id_at(parts, path, marker + 1, master_id) {
+        if under_min(n, least) {
+            return Walk::Refuse;
+        }
+        return Walk::On {
+            marker: marker + 2,
+            counter: 0,
+        };
+    }
+    if over_max(n + 1, most) {
+        return Walk::Refuse;
+    }
+    Walk::On {
+        marker,
+        counter: n + 1,
+    }
+}
+
+// A master at a Global, strictly or as ported; the counter does not count it.
+fn walk_global_in(
+    strict: bool,
+    parts: &[u64],
+    path: Path,
+    master_id: u64,
+    marker: usize,
+    counter: u64,
+    least: Bound,
+    most: Bound,
+) -> Walk
+    requires { ⌜ (marker < length (partsIn (partsOf (now parts)) path)) × (counter < 2 ^ 64 - 1) ⌝ }
+    ensures { λ r. ⌜ r ≡ walkAt strict (partsIn (partsOf (now (parts .entry))) path) (Global least most) «master_id» marker counter ⌝ }
+{
+    if strict {
+        return walk_global_strictly(parts, path, master_id, marker, counter, least, most);
+    }
+    walk_global(parts, path, master_id, marker, counter + 1, least, most)
+}
+
 // A master in the walk, where the new ID does not end it.
-fn walk_part(parts: &[u64], path: Path, master_id: u64, marker: usize, counter: u64) -> Walk
+fn walk_part(
+    strict: bool,
+    parts: &[u64],
+    path: Path,
+    master_id: u64,
+    marker: usize,
+    counter: u64,
+) -> Walk
     requires { ⌜ counter < 2 ^ 64 - 1 ⌝ }
-    ensures { λ r. ⌜ r ≡ walkPart (partsIn (partsOf (now (parts .entry))) path) «master_id» marker counter ⌝ }
+    ensures { λ r. ⌜ r ≡ walkPart strict (partsIn (partsOf (now (parts .entry))) path) «master_id» marker counter ⌝ }
 {
     if path_length(parts, path) <= marker {
         return Walk::Refuse;
@@ -93,12 +151,13 @@ fn walk_part(parts: &[u64], path: Path, master_id: u64, marker: usize, counter: 
             }
             Walk::Refuse
         }
-        PathPart::Global { min, max } => walk_global(
+        PathPart::Global { min, max } => walk_global_in(
+            strict,
             parts,
             path,
             master_id,
             marker,
-            counter + 1,
+            counter,
             min,
             max,
         ),
@@ -116,24 +175,43 @@ fn counted(counter: u64) -> u64
 }
 
 // Whether a master has an Unknown size and the new ID ends it.
-fn unknown_and_ended(
+pub fn unknown_and_ended(
+    strict: bool,
     entries: &[u64],
     parts: &[u64],
     known: bool,
     master_id: u64,
     tag_id: u64,
 ) -> bool
-    ensures { λ r. ⌜ r ≡ unknownAndEnded (tableOf (now (entries .entry)) (now (parts .entry))) known «master_id» «tag_id» ⌝ }
+    ensures { λ r. ⌜ r ≡ unknownAndEnded strict (tableOf (now (entries .entry)) (now (parts .entry))) known «master_id» «tag_id» ⌝ }
 {
     if known {
         return false;
     }
-    is_ended_by(entries, parts, master_id, tag_id)
+    is_ended_in(strict, entries, parts, master_id, tag_id)
+}
+
+// Whether the walk accepts at a master at once: never, strictly.
+fn accepts_at_once(
+    strict: bool,
+    entries: &[u64],
+    parts: &[u64],
+    known: bool,
+    master_id: u64,
+    tag_id: u64,
+) -> bool
+    ensures { λ r. ⌜ r ≡ (not strict && unknownAndEnded false (tableOf (now (entries .entry)) (now (parts .entry))) known «master_id» «tag_id») ⌝ }
+{
+    if strict {
+        return false;
+    }
+    unknown_and_ended(false, entries, parts, known, master_id, tag_id)
 }
 
 // One open master in the walk of `tag_id` along its path. A counter of 2^64 - 1, which no walk reaches, is taken as one
 // less.
 pub fn walk_master(
+    strict: bool,
     entries: &[u64],
     parts: &[u64],
     path: Path,
@@ -143,12 +221,12 @@ pub fn walk_master(
     marker: usize,
     counter: u64,
 ) -> Walk
-    ensures { λ r. ⌜ r ≡ walkMaster (tableOf (now (entries .entry)) (now (parts .entry))) (partsIn (partsOf (now (parts .entry))) path) «tag_id» «master_id» known marker (countedOf counter) ⌝ }
+    ensures { λ r. ⌜ r ≡ walkMaster strict (tableOf (now (entries .entry)) (now (parts .entry))) (partsIn (partsOf (now (parts .entry))) path) «tag_id» «master_id» known marker (countedOf counter) ⌝ }
 {
-    if unknown_and_ended(entries, parts, known, master_id, tag_id) {
+    if accepts_at_once(strict, entries, parts, known, master_id, tag_id) {
         return Walk::Accept;
     }
-    walk_part(parts, path, master_id, marker, counted(counter))
+    walk_part(strict, parts, path, master_id, marker, counted(counter))
 }
 
 // Whether the walk may end at this last part: a Global whose min is met.
@@ -186,7 +264,7 @@ pub fn at_most_32(count: usize) -> usize
 }
 
 // The least of a count and two lengths.
-fn least_of(count: usize, ids: usize, knowns: usize) -> usize
+pub fn least_of(count: usize, ids: usize, knowns: usize) -> usize
     ensures { λ r. ⌜ r ≡ min count (min ids knowns) ⌝ }
 {
     if ids < knowns {
@@ -198,6 +276,7 @@ fn least_of(count: usize, ids: usize, knowns: usize) -> usize
 // The walk of `id` along a path that is at hand, over the first `n` open masters, outermost first: their IDs, and
 // whether their sizes are known. What lies past the lent words is not there.
 pub fn walk_along(
+    strict: bool,
     entries: &[u64],
     parts: &[u64],
     path: Path,
@@ -206,14 +285,24 @@ pub fn walk_along(
     knowns: &[bool],
     n: usize,
 ) -> bool
-    ensures { λ r. ⌜ r ≡ walkFrom (tableOf (now (entries .entry)) (now (parts .entry))) (partsIn (partsOf (now (parts .entry))) path) id 0 0 (mastersShown (now (ids .entry)) (now (knowns .entry)) n) ⌝ }
+    ensures { λ r. ⌜ r ≡ walkFrom strict (tableOf (now (entries .entry)) (now (parts .entry))) (partsIn (partsOf (now (parts .entry))) path) id 0 0 (mastersShown (now (ids .entry)) (now (knowns .entry)) n) ⌝ }
 {
     let count = least_of(n, ids.len(), knowns.len());
     let mut marker: usize = 0;
     let mut counter: u64 = 0;
     let mut i: usize = 0;
     while i < count {
-        match walk_master(entries, parts, path, id, ids[i], knowns[i], marker, counter) {
+        match walk_master(
+            strict,
+            entries,
+            parts,
+            path,
+            id,
+            ids[i],
+            knowns[i],
+            marker,
+            counter,
+        ) {
             Walk::Accept => {
                 return true;
             }
@@ -231,19 +320,4 @@ pub fn walk_along(
         i += 1;
     }
     walk_end(parts, path, marker, counter)
-}
-
-// Whether `tag_id` may stand in the first `count` open masters, as `walk_along` takes them: its path is looked up here.
-pub fn validate_tag_path(
-    entries: &[u64],
-    parts: &[u64],
-    tag_id: u64,
-    ids: &[u64],
-    knowns: &[bool],
-    count: usize,
-) -> bool
-    ensures { λ r. ⌜ r ≡ validateTagPath (tableOf (now (entries .entry)) (now (parts .entry))) «tag_id» (mastersShown (now (ids .entry)) (now (knowns .entry)) count) ⌝ }
-{
-    let path = get_path_by_id(entries, parts, tag_id);
-    walk_along(entries, parts, path, tag_id, ids, knowns, count)
 }

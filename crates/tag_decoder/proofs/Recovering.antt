@@ -78,33 +78,33 @@ module _ (ps : List ℕ) (t : List Entry) where
 
 -- ---- the places that are passed over without a look at the record
 
-module _ (t : List Entry) (allowed : Bool) (s : List ℕ) (i : ℕ) where
+module _ (t : List Entry) (strict allowed : Bool) (s : List ℕ) (i : ℕ) where
   -- from a place to itself there is none
-  pub passed-none : i ≤ length s → PassedTo t allowed s i i
+  pub passed-none : i ≤ length s → PassedTo t strict allowed s i i
   passed-none h = record { onward = omega arith; within = h; none = λ k a b. absurd (omega (arith, a, b)) }
 
   -- one place more where the search may not end
-  pub passed-on : (j : ℕ) → PassedTo t allowed s i j → j < length s → mayEnd allowed (readHeader t (drop j s)) ≡ false → PassedTo t allowed s i (j + 1)
+  pub passed-on : (j : ℕ) → PassedTo t strict allowed s i j → j < length s → mayEnd strict allowed (readHeader t (drop j s)) ≡ false → PassedTo t strict allowed s i (j + 1)
   passed-on j p h e = record { onward = omega (arith, p .onward); within = omega (arith, h); none = λ k a b. go k a b (decLe (suc k) j) }
     where
-      go : (k : ℕ) → i ≤ k → k < j + 1 → Dec (suc k ≤ j) → mayEnd allowed (readHeader t (drop k s)) ≡ false
+      go : (k : ℕ) → i ≤ k → k < j + 1 → Dec (suc k ≤ j) → mayEnd strict allowed (readHeader t (drop k s)) ≡ false
       go k a b (yes c) = p .none k a (omega (arith, c))
       go k a b (no c) = let q : k ≡ j = omega (arith, b, c) in rw q e
 
 module _ (ps : List ℕ) (t : List Entry) where
   -- one such place
-  skip-one : (d : TagDecoder) (s : List ℕ) → 0 < length s → mayEnd (d .settings .«allow_ids») (readHeader t s) ≡ false
+  skip-one : (d : TagDecoder) (s : List ℕ) → 0 < length s → mayEnd (d .settings .strict) (d .settings .«allow_ids») (readHeader t s) ≡ false
       → endOfSearch ps t d s ≡ endOfSearch ps t (forward d) (drop 1 s)
   unfolding placeAt headerAt
   skip-one d s h e = search-goes ps t d s (stepOn d) h (sym (go (readHeader t s) e)) refl
     where
-      go : (r : ReadHeader) → mayEnd (d .settings .«allow_ids») r ≡ false → readAt ps t d r ≡ stepOn d
+      go : (r : ReadHeader) → mayEnd (d .settings .strict) (d .settings .«allow_ids») r ≡ false → readAt ps t d r ≡ stepOn d
       go (header.NeedMore missing) f = absurd (true≢false f)
       go (header.Refused x) f = refl
       go (header.Header x) f = cond-no (step6 d x) _ _ f
 
   -- and k of them
-  skip : (k : ℕ) (d : TagDecoder) (s : List ℕ) → k ≤ length s → ((j : ℕ) → j < k → mayEnd (d .settings .«allow_ids») (readHeader t (drop j s)) ≡ false)
+  skip : (k : ℕ) (d : TagDecoder) (s : List ℕ) → k ≤ length s → ((j : ℕ) → j < k → mayEnd (d .settings .strict) (d .settings .«allow_ids») (readHeader t (drop j s)) ≡ false)
       → endOfSearch ps t d s ≡ endOfSearch ps t (atPosition d (d .position + k)) (drop k s)
   unfolding withNotes
   skip zero d s h none = let z : d .position + 0 ≡ d .position = omega arith in ap (λ (p : ℕ). endOfSearch ps t (atPosition d p) s) (sym z)
@@ -116,12 +116,12 @@ module _ (ps : List ℕ) (t : List Entry) where
       ∙ ap (λ (p : ℕ). endOfSearch ps t (atPosition d p) (drop k s)) z
 
   -- from place i to place j
-  skip-to : (d : TagDecoder) (s : List ℕ) (i j p : ℕ) → PassedTo t (d .settings .«allow_ids») s i j → p ≡ d .position + (j - i)
+  skip-to : (d : TagDecoder) (s : List ℕ) (i j p : ℕ) → PassedTo t (d .settings .strict) (d .settings .«allow_ids») s i j → p ≡ d .position + (j - i)
       → endOfSearch ps t d (drop i s) ≡ endOfSearch ps t (atPosition d p) (drop j s)
   skip-to d s i j p k e =
       let sum : i + (j - i) ≡ j = omega (arith, k .onward) in
       skip (j - i) d (drop i s) (omega (arith, k .within, length-drop i s))
-      (λ n h. ap (λ (r : List ℕ). mayEnd (d .settings .«allow_ids») (readHeader t r)) (drop-drop n i s) ∙ k .none (i + n) (omega arith) (omega (arith, h)))
+      (λ n h. ap (λ (r : List ℕ). mayEnd (d .settings .strict) (d .settings .«allow_ids») (readHeader t r)) (drop-drop n i s) ∙ k .none (i + n) (omega arith) (omega (arith, h)))
       ∙ ap (λ (q : ℕ). endOfSearch ps t (atPosition d q) (drop (j - i) (drop i s))) (sym e)
       ∙ ap (endOfSearch ps t (atPosition d p)) (drop-drop (j - i) i s ∙ ap (λ (n : ℕ). drop n s) sum)
 
@@ -133,10 +133,10 @@ pub record Searched (ps : List ℕ) (t : List Entry) (d : TagDecoder) (s : List 
   pub settings : e .settings ≡ d .settings
   pub within : i ≤ length s
   -- it may end there
-  pub there : i < length s → mayEnd (d .settings .«allow_ids») (readHeader t (drop i s)) ≡ true
+  pub there : i < length s → mayEnd (d .settings .strict) (d .settings .«allow_ids») (readHeader t (drop i s)) ≡ true
 
 -- at first it has come to the first place where it may end
-pub searched-first : (ps : List ℕ) (t : List Entry) (d : TagDecoder) (s : List ℕ) (i : ℕ) → GoodState d → NextPlace t (d .settings .«allow_ids») s 0 i → Searched ps t d s d i
+pub searched-first : (ps : List ℕ) (t : List Entry) (d : TagDecoder) (s : List ℕ) (i : ℕ) → GoodState d → NextPlace t (d .settings .strict) (d .settings .«allow_ids») s 0 i → Searched ps t d s d i
 searched-first ps t d s i g k = record {
   same = skip-to ps t d s 0 i (d .position + i) (k .passed) (omega arith);
   good = g;
@@ -153,7 +153,7 @@ abbrev pub others : List ℕ
 others = 0 ∷ 1 ∷ []
 
 module _ (ps : List ℕ) (t : List Entry) (d : TagDecoder) where
-  stops-at : (r : ReadHeader) → OneOf others (tagOf the-type r) → mayEnd (d .settings .«allow_ids») r ≡ true → readAt ps t d r ≡ at Stop d
+  stops-at : (r : ReadHeader) → OneOf others (tagOf the-type r) → mayEnd (d .settings .strict) (d .settings .«allow_ids») r ≡ true → readAt ps t d r ≡ at Stop d
   stops-at (header.NeedMore missing) k e = refl
   stops-at (header.Refused x) k e = absurd (false≢true e)
   stops-at (header.Header h) k e = absurd (miss others 2 tt k)
@@ -183,9 +183,9 @@ module _ (es ps : List ℕ) (shape : goodShape es ps ≡ true) (d : TagDecoder) 
       ap (λ (n : ℕ). at Stop (atPosition e (d .position + n))) (sym z) ∙ sym (so-far .same ∙ ap (endOfSearch ps t here) (drop-of-length-le s h))
 
   module _ (h : i < length s) where
-    may-end : mayEnd (here .settings .«allow_ids») (readHeader t (drop i s)) ≡ true
+    may-end : mayEnd (here .settings .strict) (here .settings .«allow_ids») (readHeader t (drop i s)) ≡ true
     unfolding withNotes
-    may-end = ap (λ (x : Settings). mayEnd (x .«allow_ids») (readHeader t (drop i s))) (so-far .settings) ∙ so-far .there h
+    may-end = ap (λ (x : Settings). mayEnd (x .strict) (x .«allow_ids») (readHeader t (drop i s))) (so-far .settings) ∙ so-far .there h
 
     -- where no header reads it stops too
     pub searched-stop : OneOf others (tagOf the-type (readHeader t (drop i s))) → at Stop here ≡ endOfSearch ps t d s
@@ -204,7 +204,7 @@ module _ (es ps : List ℕ) (shape : goodShape es ps ≡ true) (d : TagDecoder) 
       with-note-good = noted-good ps here (step7 t here x) here-good (step7-applies es ps shape here (drop i s) x read)
 
       allowed : step6 here x ≡ true
-      allowed = sym (ap (mayEnd (here .settings .«allow_ids»)) read) ∙ may-end
+      allowed = sym (ap (mayEnd (here .settings .strict) (here .settings .«allow_ids»)) read) ∙ may-end
 
       -- a valid one is found
       pub searched-found : validHeader t with-note x ≡ Pass → at Found with-note ≡ endOfSearch ps t d s
@@ -213,12 +213,12 @@ module _ (es ps : List ℕ) (shape : goodShape es ps ≡ true) (d : TagDecoder) 
           ∙ sym (so-far .same)
 
       -- else the search comes to the next place where it may end
-      pub searched-on : {y : DecodeError} → validHeader t with-note x ≡ Fail y → (j : ℕ) → NextPlace t (d .settings .«allow_ids») s (i + 1) j → Searched ps t d s with-note j
+      pub searched-on : {y : DecodeError} → validHeader t with-note x ≡ Fail y → (j : ℕ) → NextPlace t (d .settings .strict) (d .settings .«allow_ids») s (i + 1) j → Searched ps t d s with-note j
       unfolding withNotes
       searched-on {y} v j k =
           let p : with-note .position ≡ d .position + i = noted-position ps here (step7 t here x) in
           let same : with-note .settings ≡ d .settings = noted-settings ps here (step7 t here x) ∙ so-far .settings in
-          let next = subst (λ (b : Bool). PassedTo t b s (i + 1) j) (ap (λ (z : Settings). z .«allow_ids») (sym same)) (k .passed) in
+          let next = subst (λ (z : Settings). PassedTo t (z .strict) (z .«allow_ids») s (i + 1) j) (sym same) (k .passed) in
           record {
             same =
                 so-far .same

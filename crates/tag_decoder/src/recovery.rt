@@ -28,27 +28,34 @@ use tag_parse::header::read_header;
 use tag_parse::types::ReadHeader;
 
 // Whether what was read as a header may end the search: where it is not whole, or passes step 6.
-fn may_end(allow_ids: bool, read: ReadHeader) -> bool
-    ensures { λ r. ⌜ r ≡ mayEnd «allow_ids» read ⌝ }
+fn may_end(strict: bool, allow_ids: bool, read: ReadHeader) -> bool
+    ensures { λ r. ⌜ r ≡ mayEnd strict «allow_ids» read ⌝ }
 {
     match read {
         ReadHeader::NeedMore { .. } => true,
         ReadHeader::Refused(_) => false,
-        ReadHeader::Header(h) => is_id_allowed(allow_ids, h),
+        ReadHeader::Header(h) => is_id_allowed(strict, allow_ids, h),
     }
 }
 
 // The first place from this one on where the search may end; past the last byte, where there is none. The places before
 // it are passed over without a look at the record.
-fn next_place(entries: &[u64], parts: &[u64], allow_ids: bool, input: &[u8], from: usize) -> usize
+fn next_place(
+    entries: &[u64],
+    parts: &[u64],
+    strict: bool,
+    allow_ids: bool,
+    input: &[u8],
+    from: usize,
+) -> usize
     requires { ⌜ from ≤ length (now input) ⌝ }
-    ensures { λ r. ⌜ NextPlace (tableOf (now (entries .entry)) (now (parts .entry))) «allow_ids» (now (input .entry)) from r ⌝ }
+    ensures { λ r. ⌜ NextPlace (tableOf (now (entries .entry)) (now (parts .entry))) strict «allow_ids» (now (input .entry)) from r ⌝ }
 {
     let n = input.len();
     let mut i = from;
     while i < n {
         let read = read_header(entries, parts, &input[i..]);
-        if may_end(allow_ids, read) {
+        if may_end(strict, allow_ids, read) {
             return i;
         }
         i += 1;
@@ -64,9 +71,10 @@ fn end_of_search(entries: &[u64], parts: &[u64], d: TagDecoder, input: &[u8]) ->
 {
     let n = input.len();
     let start = d.position;
+    let strict = d.settings.strict;
     let allow_ids = d.settings.allow_ids;
     let mut e = d;
-    let mut i = next_place(entries, parts, allow_ids, input, 0);
+    let mut i = next_place(entries, parts, strict, allow_ids, input, 0);
     while i < n {
         e.position = start + i as u64;
         let ReadHeader::Header(h) = read_header(entries, parts, &input[i..]) else {
@@ -84,7 +92,7 @@ fn end_of_search(entries: &[u64], parts: &[u64], d: TagDecoder, input: &[u8]) ->
                 state: e,
             };
         }
-        i = next_place(entries, parts, allow_ids, input, i + 1);
+        i = next_place(entries, parts, strict, allow_ids, input, i + 1);
     }
     e.position = start + n as u64;
     PlaceResult {

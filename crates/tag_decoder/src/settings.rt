@@ -1,8 +1,9 @@
-// `new`, `allow_errors`, `set_max_allowable_tag_size`, `position` and `is_finished`.
+// `new`, `allow_errors`, `set_max_allowable_tag_size`, `position` and `is_finished`; `set_strict`, which the Rust has
+// not.
 
 ghost use mathlib.Core.Path.{_≡_};
 ghost use Rattle.decoder_rules.specs.Record.{fresh};
-ghost use Rattle.decoder_rules.specs.Settings.{allowing, limitedTo, isFinished};
+ghost use Rattle.decoder_rules.specs.Settings.{allowing, reading, limitedTo, isFinished};
 use decoder_rules::types::Optional;
 use decoder_rules::types::TagDecoder;
 
@@ -21,6 +22,16 @@ pub fn allow_errors(mut d: TagDecoder, ids: bool, hierarchy: bool, oversized: bo
     s.allow_ids = ids;
     s.allow_hierarchy = hierarchy;
     s.allow_oversized = oversized;
+    d.settings = s;
+    d
+}
+
+// From now on reading is strict, or as ported.
+pub fn set_strict(mut d: TagDecoder, strict: bool) -> TagDecoder
+    ensures { λ r. ⌜ r ≡ reading d strict ⌝ }
+{
+    let mut s = d.settings;
+    s.strict = strict;
     d.settings = s;
     d
 }

@@ -17,7 +17,7 @@ use Rattle.table.specs.declared.types.Path.{Path}
 use Rattle.table.specs.declared.types.PathPart.{PathPart}
 use Rattle.table.specs.declared.types.PathPart.the-variants.{Id, Global}
 use Rattle.tag_parse.specs.declared.types.TagHeader.{TagHeader}
-use Rattle.decoder_rules.specs.Record.{farthest, implied, settledTo}
+use Rattle.decoder_rules.specs.Record.{farthest, implied, withOpen, withNotes, settledTo}
 use Rattle.decoder_rules.specs.OneCall.{check10to12, checkRecord10to12, isFull, step3, step6, settles, step7, noted}
 use Rattle.decoder_rules.specs.Deciding.{steps8-11, decide}
 use Rattle.decoder_rules.specs.Moving.{apply, decode}
@@ -104,7 +104,8 @@ module _ (es ps : List ℕ) (d : TagDecoder) (s : List ℕ) (path : Path) (short
       record { at-bytes = record { none-full = none; some-byte = at .some-byte }; read = w .at .read }
 
   typed-again : step6 after (w .h) ≡ true
-  typed-again = rw (settles-when (tableOf es ps) d (w .h) (w .settling) .1)
+  unfolding settledTo withOpen withNotes
+  typed-again = w .typed
 
   note-again : step7 (tableOf es ps) after (w .h) ≡ NoNote
   note-again = rw (settled-settled d parts)

@@ -20,6 +20,7 @@ use Rattle.tag_decoder_lent.proofs.calls.decode_eof as decode-eof
 use Rattle.tag_decoder_lent.proofs.calls.try_recover as try-recover
 use Rattle.tag_decoder_lent.proofs.settings.allow_errors as allow-errors
 use Rattle.tag_decoder_lent.proofs.settings.set_max_allowable_tag_size as set-max
+use Rattle.tag_decoder_lent.proofs.settings.set_strict as set-strict
 use Rattle.tag_decoder_lent.proofs.settings.position as position
 use Rattle.tag_decoder_lent.proofs.settings.is_finished as is-finished
 
@@ -40,6 +41,9 @@ module _ {M : Type 1} (𝓤 : URA M) (H : Heap 𝓤) (A : Atoms 𝓤) (mem : Mem
 
   pub try-recover-one : OneAnswer 𝓤 try-recover.ended (try-recover.clauses 𝓤 H A mem run)
   try-recover-one κs a g r r' ws ws' = both 𝓤 (λ p q. (same (p .answer) (q .answer), ap (λ (d : TagDecoder). (d, ws .1)) (same (p .left) (q .left))))
+
+  pub set-strict-one : OneAnswer 𝓤 set-strict.ended (set-strict.clauses 𝓤 H A mem run)
+  set-strict-one κs a g r r' ws ws' = both 𝓤 (λ p q. (refl, ap (λ (d : TagDecoder). (d, ws .1)) (same p q)))
 
   pub allow-errors-one : OneAnswer 𝓤 allow-errors.ended (allow-errors.clauses 𝓤 H A mem run)
   allow-errors-one κs a g r r' ws ws' = both 𝓤 (λ p q. (refl, ap (λ (d : TagDecoder). (d, ws .1)) (same p q)))

@@ -1,7 +1,7 @@
-// `allow_errors`, `set_max_allowable_tag_size`, `position` and `is_finished` of a lent record.
+// `allow_errors`, `set_strict`, `set_max_allowable_tag_size`, `position` and `is_finished` of a lent record.
 
 ghost use mathlib.Core.Path.{_≡_};
-ghost use Rattle.decoder_rules.specs.Settings.{allowing, limitedTo, isFinished};
+ghost use Rattle.decoder_rules.specs.Settings.{allowing, reading, limitedTo, isFinished};
 use decoder_rules::types::Optional;
 use decoder_rules::types::TagDecoder;
 
@@ -12,6 +12,15 @@ pub fn allow_errors(d: &mut TagDecoder, ids: bool, hierarchy: bool, oversized: b
     let record = *d;
     let allowed = tag_decoder::settings::allow_errors(record, ids, hierarchy, oversized);
     *d = allowed;
+}
+
+// From now on reading is strict, or as ported.
+pub fn set_strict(d: &mut TagDecoder, strict: bool)
+    ensures { λ _. ⌜ now (d .exit) ≡ reading (now (d .entry)) strict ⌝ }
+{
+    let record = *d;
+    let set = tag_decoder::settings::set_strict(record, strict);
+    *d = set;
 }
 
 // From now on a size is at most this one, or any where it is `Nothing`.

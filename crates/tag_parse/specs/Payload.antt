@@ -1,11 +1,12 @@
 -- Document 01, "One call of the decoder", step 11, what a payload is: "An empty number is 0, an empty float 0.0." No
 -- payload of an element is an integer of over 8 bytes (document 02, CR 8), so that `valueOf` has no refusal for it;
 -- `readData` is of any bytes, and has.
-use Prim.Native.Nat.{ℕ}
+use Prim.Native.Nat.{ℕ, _+_}
 use mathlib.Core.Bool.{Bool, true, false, cond}
 use mathlib.Core.List.{List}
 use lib.Dec.{eqb}
-use lib.ListN.{length}
+use lib.ListN.{length, take}
+use Rattle.basics.specs.Lists.{firstIndex}
 use Rattle.tools.specs.Bytes.{beNumber}
 use Rattle.tools.specs.Integer.{integerOf, arrToU64, arrToI64}
 use Rattle.tools.specs.Float.{arrToF64}
@@ -38,9 +39,19 @@ isInteger type.Float = false
 isInteger type.Master = false
 isInteger type.Untyped = false
 
--- "text not UTF-8 by RFC 3629": 20
-abbrev pub textValue : List ℕ → Range → ReadValue
-textValue s range = cond (isText s) (Value (Utf8 range)) (Refused FromUtf8Error)
+-- a text at a range of the stream; "text not UTF-8 by RFC 3629": 20
+abbrev pub textOf : List ℕ → Range → ReadValue
+textOf s range = cond (isText s) (Value (Utf8 range)) (Refused FromUtf8Error)
+
+-- how many bytes come before the first zero byte; all, where there is none
+abbrev pub beforeZero : List ℕ → ℕ
+beforeZero s = firstIndex (λ b. eqb b 0) s
+
+-- the text of a payload: as ported all of it; strictly, document 02, CR 11, it ends "at its first zero byte, the rest
+-- unchecked"
+abbrev pub textValue : Bool → List ℕ → Range → ReadValue
+textValue strict s range =
+    cond strict (textOf (take (beforeZero s) s) (record { begin = range .begin; end = range .begin + beforeZero s })) (textOf s range)
 
 -- "float of 1 to 3 or 5 to 7 bytes": 21
 abbrev pub floatOr21 : ArrToF64 → ReadValue
@@ -51,15 +62,15 @@ floatOr21 (float.Refused e) = Refused ReadF64Mismatch
 abbrev pub floatValue : List ℕ → ReadValue
 floatValue s = cond (eqb (length s) 0) (Value (Float 0)) (floatOr21 (arrToF64 s))
 
--- a payload of a type, which lies at a range of the stream; raw where there is no type
-unfoldable pub valueOf : TagDataType → List ℕ → Range → ReadValue
-valueOf type.UnsignedInt s range = Value (UnsignedInt (beNumber s))
-valueOf type.Integer s range = Value (Integer (integerOf s))
-valueOf type.Utf8 s range = textValue s range
-valueOf type.Binary s range = Value (Binary range)
-valueOf type.Float s range = floatValue s
-valueOf type.Master s range = Value (Raw range)
-valueOf type.Untyped s range = Value (Raw range)
+-- a payload of a type, which lies at a range of the stream, strictly or as ported; raw where there is no type
+unfoldable pub valueOf : Bool → TagDataType → List ℕ → Range → ReadValue
+valueOf strict type.UnsignedInt s range = Value (UnsignedInt (beNumber s))
+valueOf strict type.Integer s range = Value (Integer (integerOf s))
+valueOf strict type.Utf8 s range = textValue strict s range
+valueOf strict type.Binary s range = Value (Binary range)
+valueOf strict type.Float s range = floatValue s
+valueOf strict type.Master s range = Value (Raw range)
+valueOf strict type.Untyped s range = Value (Raw range)
 
 -- ---- any bytes
 
@@ -82,7 +93,7 @@ integerData (signed.Refused e) = read.NumberRefused e
 unfoldable pub readData : TagDataType → List ℕ → Range → ReadData
 readData type.UnsignedInt s range = unsignedData (arrToU64 s)
 readData type.Integer s range = integerData (arrToI64 s)
-readData type.Utf8 s range = dataOf (textValue s range)
+readData type.Utf8 s range = dataOf (textOf s range)
 readData type.Binary s range = read.Value (Binary range)
 readData type.Float s range = dataOf (floatValue s)
 readData type.Master s range = read.Value (Raw range)

@@ -20,6 +20,8 @@ use Rattle.tools.proofs.vint.as_vint_with_length.Reads as as-vint-with-
 use Rattle.tools.proofs.vint.as_vint_with_length.Kinds as as-vint-with-length-kinds
 use Rattle.tools.proofs.vint.is_vint.Reads as is-vint
 use Rattle.tools.proofs.vint.is_vint.Kinds as is-vint-kinds
+use Rattle.tools.proofs.element_id.element_id_length.Reads as element-id-length
+use Rattle.tools.proofs.element_id.element_id_length.Kinds as element-id-length-kinds
 use Rattle.tools.proofs.element_id.is_element_id.Reads as is-element-id
 use Rattle.tools.proofs.element_id.is_element_id.Kinds as is-element-id-kinds
 use Rattle.tools.proofs.signed_vint.read_signed_vint.Reads as read-signed-vint
@@ -70,6 +72,9 @@ as-vint-with-length-one κs a = one-answer (λ r e p. given p)
 
 pub is-vint-one : (κs : Lfts 0) (a : Dens κs is-vint-kinds.ps) → OneAnswer (is-vint.Post κs a) answer
 is-vint-one κs a = one-answer (λ r e p. p)
+
+pub element-id-length-one : (κs : Lfts 0) (a : Dens κs element-id-length-kinds.ps) → OneAnswer (element-id-length.Post κs a) answer
+element-id-length-one κs a = one-answer (λ r e p. p)
 
 pub is-element-id-one : (κs : Lfts 0) (a : Dens κs is-element-id-kinds.ps) → OneAnswer (is-element-id.Post κs a) answer
 is-element-id-one κs a = one-answer (λ r e p. p)

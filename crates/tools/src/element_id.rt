@@ -2,7 +2,7 @@
 
 ghost use mathlib.Core.Path.{_≡_};
 ghost use Prim.Native.Nat.{_≤_};
-ghost use Rattle.tools.specs.ElementId.{isIdOf, isElementId};
+ghost use Rattle.tools.specs.ElementId.{isIdOf, elementIdLength, isElementId};
 use crate::bytes::pow2;
 
 // Whether a number is an ID of so many bytes: the marker at its place, data neither all 0 nor all 1, and the shortest
@@ -28,16 +28,23 @@ fn is_id_of(length: usize, id: u64) -> bool
     pow2(7 * (length - 1)) - 1 <= value
 }
 
-// Whether a number is an Element ID as RFC 8794 allows it, of 1 to 8 bytes.
-pub fn is_element_id(id: u64) -> bool
-    ensures { λ r. ⌜ r ≡ isElementId id ⌝ }
+// How many bytes a number has as an Element ID, as RFC 8794 allows it: 1 to 8, or 9 where it is none.
+pub fn element_id_length(id: u64) -> usize
+    ensures { λ r. ⌜ r ≡ elementIdLength id ⌝ }
 {
     let mut length: usize = 1;
     while length <= 8 {
         if is_id_of(length, id) {
-            return true;
+            return length;
         }
         length += 1;
     }
-    false
+    9
+}
+
+// Whether a number is an Element ID as RFC 8794 allows it, of 1 to 8 bytes.
+pub fn is_element_id(id: u64) -> bool
+    ensures { λ r. ⌜ r ≡ isElementId id ⌝ }
+{
+    element_id_length(id) <= 8
 }

@@ -1,6 +1,7 @@
--- No list of a record that was cut ends in Z: of a record that begins with a Master of known size, a part that is not
--- empty and ends before that master does has no list, with a buffer of any size, whose last answer is the finish. It is
--- `cut-root` of the calls that the lister makes. Assumes nothing.
+-- No list of a record that was cut ends in Z, read strictly or as ported: of a record that begins with a Master of
+-- known size, a part that is not empty and ends before that master does has no list, with a buffer of any size, whose
+-- last answer is the finish. It is `cut-root` of the calls that the lister makes, the setting before them. Assumes
+-- nothing.
 use Prim.Native.Nat.{ℕ, _+_, _<_}
 use mathlib.Core.Path.{_≡_, refl, sym, ap, _∙_, subst}
 use mathlib.Core.Bool.{Bool, true, false, cond, false≢true}
@@ -12,7 +13,6 @@ use Rattle.tools.specs.Bytes.{Octets}
 use Rattle.tools.proofs.BigEndian.{octets-take}
 use Rattle.table.specs.BenchTable.{benchEntries, benchParts, bench}
 use Rattle.tag_parse.proofs.Cases.{octets-drop}
-use Rattle.decoder_rules.specs.Record.{fresh}
 use Rattle.decoder_rules.specs.Moving.{decode}
 use Rattle.decoder_rules.specs.EndOfInput.{decodeEof}
 use Rattle.decoder_rules.specs.declared.types.Answer.{Answer}
@@ -21,7 +21,7 @@ use Rattle.decoder_rules.specs.declared.types.Decoded.{Decoded}
 use Rattle.decoder_rules.specs.declared.types.Event.{Event}
 use Rattle.decoder_rules.specs.declared.types.TagDecoder.{TagDecoder}
 use Rattle.event_list.specs.Whole.{nextAnswer, Answered, answeredBy, Answers, goes-on, ends, ListOf}
-use Rattle.guarantees.specs.Calls.{Call, decoding, ending, lent, answered, responseTo, next, recordAfter, history, Lent}
+use Rattle.guarantees.specs.Calls.{Call, decoding, ending, strictly, lent, answered, responseTo, next, recordAfter, history, Lent}
 use Rattle.guarantees.specs.History.{position}
 use Rattle.guarantees.specs.Promises as promised
 use Rattle.guarantees.specs.Promises.{positionAt}
@@ -92,8 +92,8 @@ module _ (size : ℕ) (s : List ℕ) (byte : Octets s)
       never cs (c .call) (on .octets) (on .in-order) (r .taken, c .told ∙ ap (λ (a : Answer). answered a (r .taken)) (finish-is (r .answer) f))
 
 -- the list of such a part does not end with the finish
-pub cut-list : (size : ℕ) (s rest : List ℕ) (f : ℕ) → Octets s → BeginsWithMaster bench (s ++ rest) f → 0 < length s → length s < f
-    → {text : List ℕ} (l : ListOf size s text) → finishes (l .answers) ≡ true → ⊥
+pub cut-list : (strict : Bool) (size : ℕ) (s rest : List ℕ) (f : ℕ) → Octets s → BeginsWithMaster bench (s ++ rest) f → 0 < length s → length s < f
+    → {text : List ℕ} (l : ListOf strict size s text) → finishes (l .answers) ≡ true → ⊥
 unfolding recordAfter Lent InOrder history position
-cut-list size s rest f byte begins some cut l =
-    not-finished size s byte (λ cs c. bench-cut-records .cut-root s rest f begins some cut cs c) [] (record { octets = tt; in-order = tt; rest = refl }) refl (l .to)
+cut-list strict size s rest f byte begins some cut l =
+    not-finished size s byte (λ cs c. bench-cut-records .cut-root s rest f begins some cut cs c) (strictly strict ∷ []) (record { octets = (octets-take 0 s byte, tt); in-order = (tt, tt); rest = refl }) refl (l .to)

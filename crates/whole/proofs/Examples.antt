@@ -2,6 +2,7 @@
 use Prim.Native.Nat.{ℕ}
 use Prim.Native.String.{String}
 use mathlib.Core.Path.{_≡_, refl}
+use mathlib.Core.Bool.{Bool, true, false}
 use mathlib.Core.List.{List, [], _∷_, map}
 use lib.ListN.{take}
 use Rattle.decoder_rules.proofs.Computing.{rulesCompute}
@@ -16,9 +17,9 @@ use Rattle.whole.specs.Night.{readFrom, answersTo}
 abbrev pub d1 : List ℕ
 d1 = 0x4E ∷ 0x01 ∷ 0x89 ∷ 0xA1 ∷ 0x87 ∷ 0xA2 ∷ 0x81 ∷ 0x78 ∷ 0xA3 ∷ 0x82 ∷ 0x6D ∷ 0x6C ∷ []
 
--- what is said of an input
-abbrev pub said : List ℕ → List ℕ
-said s = line.verdictText (verdictOf (answersTo benchEntries benchParts s))
+-- what is said of an input, read strictly or as ported
+abbrev pub said : Bool → List ℕ → List ℕ
+said strict s = line.verdictText (verdictOf (answersTo strict benchEntries benchParts s))
 
 -- inputs, and what is said of them
 abbrev pub examples : List (List ℕ × String)
@@ -47,6 +48,23 @@ examples =
     ∷ []
 
 -- all of them
-pub all-examples : map (λ (p : List ℕ × String). said (p .0)) examples ≡ map (λ (p : List ℕ × String). ascii (p .1)) examples
+pub all-examples : map (λ (p : List ℕ × String). said false (p .0)) examples ≡ map (λ (p : List ℕ × String). ascii (p .1)) examples
 unfolding rulesCompute digits places verdictAfter line.counted line.sizeText line.rootText line.verdictText readFrom
 all-examples = refl
+
+-- inputs, and what is said of them where they are read strictly
+abbrev pub strictExamples : List (List ℕ × String)
+strictExamples =
+    (d1, "WHOLE 1 feed, 12 bytes")
+    -- D4, D9 and D6
+    ∷ (0x4E ∷ 0x01 ∷ 0xFF ∷ 0xA1 ∷ 0x85 ∷ 0x4E ∷ 0x01 ∷ 0x80 ∷ [], "REFUSED 16 at 5")
+    ∷ (0x4E ∷ 0x01 ∷ 0x81 ∷ 0xA1 ∷ 0xFF ∷ [], "REFUSED 81 at 3")
+    ∷ (0x00 ∷ 0x81 ∷ 0x05 ∷ [], "REFUSED 80 at 0")
+    -- a text of a zero byte and one that is no text
+    ∷ (0x4E ∷ 0x01 ∷ 0x86 ∷ 0xA1 ∷ 0x84 ∷ 0xA3 ∷ 0x82 ∷ 0x00 ∷ 0xFF ∷ [], "WHOLE 1 feed, 9 bytes")
+    ∷ []
+
+-- all of them
+pub all-strict-examples : map (λ (p : List ℕ × String). said true (p .0)) strictExamples ≡ map (λ (p : List ℕ × String). ascii (p .1)) strictExamples
+unfolding rulesCompute digits places verdictAfter line.counted line.sizeText line.rootText line.verdictText readFrom
+all-strict-examples = refl

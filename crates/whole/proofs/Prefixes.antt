@@ -1,5 +1,6 @@
--- No part at the front of a whole night with one record is whole, if it ends before the night does: the root, whose end
--- its first header tells, is closed at its end, and with one record nothing comes behind it. Assumes nothing.
+-- No part at the front of a whole night with one record is whole, if it ends before the night does and both are read
+-- strictly, or both as ported: the root, whose end its first header tells, is closed at its end, and with one record
+-- nothing comes behind it. Assumes nothing.
 use Prim.Native.Nat.{ℕ, zero, suc, _+_, _-_, _*_, _^_, _≤_, _<_}
 use mathlib.Core.Path.{_≡_, refl, sym, ap, _∙_}
 use mathlib.Core.Bool.{Bool, true, false, cond, false≢true}
@@ -20,7 +21,7 @@ use Rattle.tag_parse.specs.declared.types.EBMLSize.{EBMLSize}
 use Rattle.tag_parse.specs.declared.types.EBMLSize.the-variants.{Known, Unknown}
 use Rattle.tag_parse.specs.declared.types.TagHeader.{TagHeader}
 use Rattle.tag_parse.proofs.Cases.{octets-drop}
-use Rattle.decoder_rules.specs.Record.{fresh, endOf, withOpen, withNotes, countedLast, counted, opened}
+use Rattle.decoder_rules.specs.Record.{endOf, withOpen, withNotes, withSettings, countedLast, counted, opened}
 use Rattle.decoder_rules.specs.OneCall.{step7, noted}
 use Rattle.decoder_rules.specs.Moving.{needsMore, masterAt, move, apply, decode}
 use Rattle.decoder_rules.specs.EndOfInput.{decodeEof}
@@ -45,7 +46,7 @@ use Rattle.whole.specs.Night.{isEvent, readFrom, answersTo, isRootAt0, h
 use Rattle.whole.proofs.Readings.{read-on, finish-later}
 use Rattle.whole.proofs.Turns.{start-settles}
 use Rattle.whole.proofs.Roots.{RootOpen, SizedApart, sized-apart, records-apart, ends-at, ends-behind}
-use Rattle.event_list.specs.Reading.{started}
+use Rattle.event_list.specs.Reading.{begun, started}
 use Rattle.event_list.specs.Run.{joined, NoneEmpty, Runs}
 use Rattle.whole.specs.Checking.{verdictOf}
 use Rattle.whole.specs.declared.types.Verdict.the-variants.{Whole}
@@ -106,6 +107,7 @@ unfolding move
 header-opens e t (exit.misplaced p) i z = absurd (false≢true i)
 header-opens e t (exit.oversized n p y g) i z = absurd (false≢true i)
 header-opens e t (exit.too-large n p y g k) i z = absurd (false≢true i)
+header-opens e t (exit.past-end p y g k) i z = absurd (false≢true i)
 header-opens e t (exit.ends-tops v k (exit.closes c)) i z = absurd (false≢true i)
 header-opens e t (exit.ends-tops v k (exit.no-master c)) i z = absurd (false≢true i)
 header-opens e t (exit.too-many at k g) i z = absurd (false≢true i)
@@ -117,9 +119,9 @@ header-opens e t (exit.payload-incomplete n has g) i z = absurd (false≢true i)
 header-opens e t (exit.payload-refused n x has g y) i z = absurd (false≢true i)
 header-opens e t (exit.holds n v has g y) i z = absurd (false≢true i)
 
-module _ (es ps : List ℕ) (s : List ℕ) where
-  exit-opens : {a : Decision} → Exit es ps fresh s a → Opens (apply ps fresh a)
-  unfolding apply move
+module _ (strict : Bool) (es ps : List ℕ) (s : List ℕ) where
+  exit-opens : {a : Decision} → Exit es ps (begun strict) s a → Opens (apply ps (begun strict) a)
+  unfolding apply move withSettings
   exit-opens (exit.refused-first x e) i z = absurd (false≢true i)
   exit-opens (exit.after-finish e g l) i z = absurd (false≢true i)
   exit-opens (exit.hands-out ok w) i z = absurd (false≢true i)
@@ -129,9 +131,9 @@ module _ (es ps : List ℕ) (s : List ℕ) where
   exit-opens (exit.no-byte n y) i z = absurd (false≢true i)
   exit-opens (exit.header-incomplete at e) i z = absurd (false≢true i)
   exit-opens (exit.header-refused x at e) i z = absurd (false≢true i)
-  exit-opens (exit.unknown-id h at g) i z = absurd (false≢true i)
+  exit-opens (exit.id-refused h at g) i z = absurd (false≢true i)
   exit-opens (exit.on-header h at g x) i z =
-      header-opens (noted ps fresh (step7 (tableOf es ps) fresh h)) (ap (λ (t : Settings). t .«allow_oversized») (noted-settings ps fresh (step7 (tableOf es ps) fresh h))) x i z
+      header-opens (noted ps (begun strict) (step7 (tableOf es ps) (begun strict) h)) (ap (λ (t : Settings). t .«allow_oversized») (noted-settings ps (begun strict) (step7 (tableOf es ps) (begun strict) h))) x i z
 
   end-opens : {t : List Entry} {e : TagDecoder} {r : Decoded} → EndExit t e s r → isRootAt0 (r .answer) (r .state) ≡ true → ⊥
   unfolding move
@@ -143,7 +145,7 @@ module _ (es ps : List ℕ) (s : List ℕ) where
 
   -- it is what decode answers, with the root open
   record FirstOpen (r : Decoded) : Type 0 where
-    decoded : r ≡ decode es ps fresh s
+    decoded : r ≡ decode es ps (begun strict) s
     asks : needsMore (r .answer) ≡ false
     root-open : RootOpen (firstEnd (r .state)) (r .state)
 
@@ -153,13 +155,13 @@ module _ (es ps : List ℕ) (s : List ℕ) where
   root-asks answer.Finished d i = refl
   root-asks (answer.Refused r) d i = refl
 
-  eof-opens : {r : Decoded} → EofExit es ps fresh s r → isRootAt0 (r .answer) (r .state) ≡ true → hasSize (r .answer) (r .state) ≡ true → FirstOpen r
-  eof-opens (at.as-decoded q) i z = record { decoded = refl; asks = root-asks (decode es ps fresh s .answer) (decode es ps fresh s .state) i; root-open = exit-opens (exits es ps fresh s) i z }
+  eof-opens : {r : Decoded} → EofExit es ps (begun strict) s r → isRootAt0 (r .answer) (r .state) ≡ true → hasSize (r .answer) (r .state) ≡ true → FirstOpen r
+  eof-opens (at.as-decoded q) i z = record { decoded = refl; asks = root-asks (decode es ps (begun strict) s .answer) (decode es ps (begun strict) s .state) i; root-open = exit-opens (exits es ps (begun strict) s) i z }
   eof-opens (at.at-end q x) i z = absurd (end-opens x i)
 
-  first-open : isRootAt0 (decodeEof es ps fresh s .answer) (decodeEof es ps fresh s .state) ≡ true
-      → hasSize (decodeEof es ps fresh s .answer) (decodeEof es ps fresh s .state) ≡ true → FirstOpen (decodeEof es ps fresh s)
-  first-open i z = eof-opens (eof-exits es ps fresh s) i z
+  first-open : isRootAt0 (decodeEof es ps (begun strict) s .answer) (decodeEof es ps (begun strict) s .state) ≡ true
+      → hasSize (decodeEof es ps (begun strict) s .answer) (decodeEof es ps (begun strict) s .state) ≡ true → FirstOpen (decodeEof es ps (begun strict) s)
+  first-open i z = eof-opens (eof-exits es ps (begun strict) s) i z
 
 root-is-record : (a : Answer) (d : TagDecoder) → isRootAt0 a d ≡ true → isRecord a d ≡ true
 root-is-record (answer.Event (event.Start x p)) d i = both (eqb p 0) (eqb (d .«open_count») 1) i .right
@@ -191,9 +193,9 @@ root-is-start (answer.Refused r) d i = absurd (false≢true i)
 
 -- ---- whole nights of the bench table
 
-module _ (s : List ℕ) (byte : Octets s) (w : IsWhole benchEntries benchParts s) where
+module _ (strict : Bool) (s : List ℕ) (byte : Octets s) (w : IsWhole strict benchEntries benchParts s) where
   abbrev R : Decoded
-  R = decodeEof benchEntries benchParts fresh s
+  R = decodeEof benchEntries benchParts (begun strict) s
 
   abbrev fuel : ℕ
   fuel = 256 * length s + 128
@@ -201,30 +203,31 @@ module _ (s : List ℕ) (byte : Octets s) (w : IsWhole benchEntries benchParts s
   abbrev rest : List Answered
   rest = readFrom benchEntries benchParts fuel (R .state) (drop (R .taken) s)
 
-  one-more : answersTo benchEntries benchParts s ≡ readFrom benchEntries benchParts (suc fuel) fresh s
-  one-more = ap (λ (n : ℕ). readFrom benchEntries benchParts n fresh s) (omega arith)
+  one-more : answersTo strict benchEntries benchParts s ≡ readFrom benchEntries benchParts (suc fuel) (begun strict) s
+  one-more = ap (λ (n : ℕ). readFrom benchEntries benchParts n (begun strict) s) (omega arith)
 
   root-first : isRootAt0 (R .answer) (R .state) ≡ true
   root-first = unfold readFrom in unfold hasFront in (rw one-more at (w .front))
 
-  all-are : answersTo benchEntries benchParts s ≡ answeredBy R ∷ rest
-  all-are = one-more ∙ read-on benchEntries benchParts fuel fresh s (root-is-event (R .answer) (R .state) root-first)
+  all-are : answersTo strict benchEntries benchParts s ≡ answeredBy R ∷ rest
+  all-are = one-more ∙ read-on benchEntries benchParts fuel (begun strict) s (root-is-event (R .answer) (R .state) root-first)
 
   sizes-apart : SizedApart (answeredBy R) rest
   sizes-apart = sized-apart (answeredBy R) rest (rw all-are at (w .sizes))
 
-  opens-first : FirstOpen benchEntries benchParts s R
-  opens-first = first-open benchEntries benchParts s root-first (sizes-apart .sized-first)
+  opens-first : FirstOpen strict benchEntries benchParts s R
+  opens-first = first-open strict benchEntries benchParts s root-first (sizes-apart .sized-first)
 
   settled-first : R .state .settled ≡ true
-  settled-first = start-settles benchEntries benchParts (checks .bench-passes) fresh s byte (root-is-start (R .answer) (R .state) root-first .is)
+  settled-first = start-settles benchEntries benchParts (checks .bench-passes) (begun strict) s byte (root-is-start (R .answer) (R .state) root-first .is)
 
   finish-rest : finishes rest ≡ true
   finish-rest = finish-later (answeredBy R) rest (root-is-event (R .answer) (R .state) root-first) (rw all-are at (w .finish)) .0
 
   -- how many bytes there are
   all-bytes : R .state .position + length (drop (R .taken) s) ≡ length s
-  all-bytes = let facts = eof-facts benchEntries benchParts fresh s byte in omega (arith, facts .moves, facts .within, length-drop (R .taken) s)
+  unfolding withSettings
+  all-bytes = let facts = eof-facts benchEntries benchParts (begun strict) s byte in omega (arith, facts .moves, facts .within, length-drop (R .taken) s)
 
   -- not fewer than up to the root's end
   not-before : firstEnd (R .state) ≤ length s
@@ -233,7 +236,7 @@ module _ (s : List ℕ) (byte : Octets s) (w : IsWhole benchEntries benchParts s
       omega (arith, all-bytes)
 
   -- with one record, just so many
-  just-there : records (answersTo benchEntries benchParts s) ≡ 1 → length s ≡ firstEnd (R .state)
+  just-there : records (answersTo strict benchEntries benchParts s) ≡ 1 → length s ≡ firstEnd (R .state)
   just-there one =
       let n = records-apart (answeredBy R) rest 1 (rw all-are at one) true (root-is-record (R .answer) (R .state) root-first) in
       let none : records rest ≡ 0 = omega arith in
@@ -241,27 +244,28 @@ module _ (s : List ℕ) (byte : Octets s) (w : IsWhole benchEntries benchParts s
       omega (arith, all-bytes)
 
 -- a whole night with one record has no part at its front that is whole and ends before it does
-pub no-front-is-whole : (s rest : List ℕ) (n m : ℕ) → Octets (s ++ rest) → length (s ++ rest) ≤ 2 ^ 62 → 0 < length rest → IsOneWhole benchEntries benchParts (s ++ rest) n m
-    → IsWhole benchEntries benchParts s → ⊥
-no-front-is-whole s rest n m byte few some w part =
+pub no-front-is-whole : (strict : Bool) (s rest : List ℕ) (n m : ℕ) → Octets (s ++ rest) → length (s ++ rest) ≤ 2 ^ 62 → 0 < length rest → IsOneWhole strict benchEntries benchParts (s ++ rest) n m
+    → IsWhole strict benchEntries benchParts s → ⊥
+unfolding withSettings
+no-front-is-whole strict s rest n m byte few some w part =
     let bytes : Octets s = octets-front s rest byte in
-    let a = opens-first s bytes part in
-    let local = decode-local benchEntries benchParts fresh s rest (bytes 0) refl (omega arith) (ap (λ (x : Decoded). needsMore (x .answer)) (sym (a .decoded)) ∙ a .asks) in
-    let b = opens-first (s ++ rest) byte (w .whole) in
-    let same : decodeEof benchEntries benchParts fresh (s ++ rest) ≡ decodeEof benchEntries benchParts fresh s = b .decoded ∙ local ∙ sym (a .decoded) in
-    let end : firstEnd (decodeEof benchEntries benchParts fresh (s ++ rest) .state) ≡ firstEnd (decodeEof benchEntries benchParts fresh s .state) = ap (λ (x : Decoded). firstEnd (x .state)) same in
-    let whole-end = just-there (s ++ rest) byte (w .whole) (w .one) in
-    let part-end = not-before s bytes part in
+    let a = opens-first strict s bytes part in
+    let local = decode-local benchEntries benchParts (begun strict) s rest (bytes 0) refl (omega arith) (ap (λ (x : Decoded). needsMore (x .answer)) (sym (a .decoded)) ∙ a .asks) in
+    let b = opens-first strict (s ++ rest) byte (w .whole) in
+    let same : decodeEof benchEntries benchParts (begun strict) (s ++ rest) ≡ decodeEof benchEntries benchParts (begun strict) s = b .decoded ∙ local ∙ sym (a .decoded) in
+    let end : firstEnd (decodeEof benchEntries benchParts (begun strict) (s ++ rest) .state) ≡ firstEnd (decodeEof benchEntries benchParts (begun strict) s .state) = ap (λ (x : Decoded). firstEnd (x .state)) same in
+    let whole-end = just-there strict (s ++ rest) byte (w .whole) (w .one) in
+    let part-end = not-before strict s bytes part in
     absurd (omega (arith, length-append s rest, end, whole-end, part-end))
 
 -- so of two inputs of which the one is a front of the other, and shorter, the check does not call both WHOLE, with
 -- buffers of any sizes and the inputs in any pieces
-pub front-not-told : (size size' : ℕ) → 0 < size → 0 < size' → (ps qs : List (List ℕ)) (rest : List ℕ) → joined qs ≡ joined ps ++ rest → 0 < length rest → NoneEmpty ps → NoneEmpty qs
-    → Octets (joined qs) → length (joined qs) ≤ 2 ^ 62 → {l k : List Answered} → Runs started (replicate size 0) ps l → Runs started (replicate size' 0) qs k
+pub front-not-told : (strict : Bool) (size size' : ℕ) → 0 < size → 0 < size' → (ps qs : List (List ℕ)) (rest : List ℕ) → joined qs ≡ joined ps ++ rest → 0 < length rest → NoneEmpty ps → NoneEmpty qs
+    → Octets (joined qs) → length (joined qs) ≤ 2 ^ 62 → {l k : List Answered} → Runs (started strict) (replicate size 0) ps l → Runs (started strict) (replicate size' 0) qs k
     → {n m n' m' : ℕ} → verdictOf l ≡ Whole n m → verdictOf k ≡ Whole n' m' → ⊥
-front-not-told size size' some some' ps qs rest e more apart apart' byte few run run' {n} {m} {n'} {m'} v v' =
+front-not-told strict size size' some some' ps qs rest e more apart apart' byte few run run' {n} {m} {n'} {m'} v v' =
     let byte' : Octets (joined ps ++ rest) = rw e at byte in
     let few' : length (joined ps ++ rest) ≤ 2 ^ 62 = rw e at few in
-    let whole = rw e at (whole-is-whole size' some' qs apart' byte few run' n' m' v') in
-    let part = whole-is-whole size some ps apart (octets-front (joined ps) rest byte') (omega (arith, length-append (joined ps) rest)) run n m v in
-    no-front-is-whole (joined ps) rest n' m' byte' few' more whole (part .whole)
+    let whole = rw e at (whole-is-whole strict size' some' qs apart' byte few run' n' m' v') in
+    let part = whole-is-whole strict size some ps apart (octets-front (joined ps) rest byte') (omega (arith, length-append (joined ps) rest)) run n m v in
+    no-front-is-whole strict (joined ps) rest n' m' byte' few' more whole (part .whole)

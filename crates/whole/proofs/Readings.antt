@@ -18,7 +18,7 @@ use Rattle.table.specs.BenchTable.{benchEntries, benchParts}
 use Rattle.table.specs.Check.{checkTable}
 use Rattle.table.specs.declared.types.Checked.the-variants.{Passed}
 use Rattle.tag_parse.proofs.Cases.{octets-drop}
-use Rattle.decoder_rules.specs.Record.{fresh}
+use Rattle.decoder_rules.specs.Record.{withSettings}
 use Rattle.decoder_rules.specs.Moving.{needsMore, decode}
 use Rattle.decoder_rules.specs.EndOfInput.{decodeEof}
 use Rattle.decoder_rules.specs.declared.types.Answer.{Answer}
@@ -31,11 +31,11 @@ use Rattle.decoder_rules.proofs.MoveLaws.{withNote}
 use Rattle.tag_decoder.proofs.CallLaws.{eof-facts}
 use Rattle.tag_decoder_laws.proofs.AppendedBytes.{octets-front, decode-local}
 use Rattle.tag_decoder_laws.proofs.Finishing.{eof-asks-no-more, eof-as-decoded}
-use Rattle.event_list.specs.Reading.{called}
-use Rattle.event_list.specs.Whole.{nextAnswer, Answered, answeredBy, Answers, goes-on, ends}
+use Rattle.event_list.specs.Reading.{begun, called}
+use Rattle.event_list.specs.Whole.{nextAnswer, Answered, answeredBy, Answers, goes-on, ends, AnswersTo}
 use Rattle.event_list.proofs.Ending.{weight, call-nearer}
 use Rattle.event_list.proofs.Views.{seen-all}
-use Rattle.whole.specs.Night.{isEvent, readFrom, isRootAt0, hasFront, hasStart, startsLeft, allStarted, isFinish, finishes, isFeed, feeds, noneAsks}
+use Rattle.whole.specs.Night.{isEvent, readFrom, answersTo, isRootAt0, hasFront, hasStart, startsLeft, allStarted, isFinish, finishes, isFeed, feeds, noneAsks}
 use Rattle.whole.proofs.Turns.{unended, Balance, balanced-noted, eof-balanced, eof-settled, finish-no-byte, finished-no-byte, start-settles}
 use Rattle.whole.proofs.Verdicts.{lastPosition}
 
@@ -81,22 +81,22 @@ module _ (es ps : List ℕ) where
       by (answer.Refused x) b more = refl
 
   -- where the front is there
-  pub front-starts : checkTable es ps ≡ Passed → (n : ℕ) (s : List ℕ) → Octets s → hasFront (readFrom es ps n fresh s) ≡ true → allStarted 0 (readFrom es ps n fresh s) ≡ true
+  pub front-starts : checkTable es ps ≡ Passed → (n : ℕ) (d : TagDecoder) (s : List ℕ) → Octets s → hasFront (readFrom es ps n d s) ≡ true → allStarted 0 (readFrom es ps n d s) ≡ true
   unfolding readFrom allStarted hasFront
-  front-starts checked zero s byte f = absurd (false≢true f)
-  front-starts checked (suc n) s byte f = by (r .answer) refl (balanced-noted es ps fresh s byte) f
+  front-starts checked zero d s byte f = absurd (false≢true f)
+  front-starts checked (suc n) d s byte f = by (r .answer) refl (balanced-noted es ps d s byte) f
     where
       r : Decoded
-      r = decodeEof es ps fresh s
+      r = decodeEof es ps d s
 
       rest : List Answered
       rest = readFrom es ps n (r .state) (drop (r .taken) s)
 
-      by : (a : Answer) → r .answer ≡ a → Balance a (unended (withNote es ps fresh s)) (unended (r .state)) (r .taken) (r .state .«waiting_count») → isRootAt0 a (r .state) ≡ true
+      by : (a : Answer) → r .answer ≡ a → Balance a (unended (withNote es ps d s)) (unended (r .state)) (r .taken) (r .state .«waiting_count») → isRootAt0 a (r .state) ≡ true
           → (hasStart a 0 && allStarted (startsLeft a 0) (cond (isEvent a) rest [])) ≡ true
       by (answer.Event (event.Start x p)) q b g =
           let one : r .state .«open_count» ≡ 1 = eqb-true _ _ (both (eqb p 0) (eqb (r .state .«open_count») 1) g .right) in
-          starts-all n (0 + 1) (r .state) (drop (r .taken) s) (octets-drop (r .taken) s byte) (start-settles es ps checked fresh s byte q) (omega (arith, one, b .1 .1))
+          starts-all n (0 + 1) (r .state) (drop (r .taken) s) (octets-drop (r .taken) s byte) (start-settles es ps checked d s byte q) (omega (arith, one, b .1 .1))
       by (answer.Event (event.End x)) q b g = absurd (false≢true g)
       by (answer.Event (event.Data x p v)) q b g = absurd (false≢true g)
       by (answer.NeedMore missing) q b g = absurd (false≢true g)
@@ -104,16 +104,16 @@ module _ (es ps : List ℕ) where
       by (answer.Refused x) q b g = absurd (false≢true g)
 
   -- and then there is a byte
-  pub front-not-empty : (n : ℕ) (s : List ℕ) → Octets s → hasFront (readFrom es ps n fresh s) ≡ true → 0 < length s
+  pub front-not-empty : (n : ℕ) (d : TagDecoder) (s : List ℕ) → Octets s → hasFront (readFrom es ps n d s) ≡ true → 0 < length s
   unfolding readFrom hasFront
-  front-not-empty zero s byte f = absurd (false≢true f)
-  front-not-empty (suc n) s byte f = by (r .answer) (balanced-noted es ps fresh s byte) f
+  front-not-empty zero d s byte f = absurd (false≢true f)
+  front-not-empty (suc n) d s byte f = by (r .answer) (balanced-noted es ps d s byte) f
     where
       r : Decoded
-      r = decodeEof es ps fresh s
+      r = decodeEof es ps d s
 
-      by : (a : Answer) → Balance a (unended (withNote es ps fresh s)) (unended (r .state)) (r .taken) (r .state .«waiting_count») → isRootAt0 a (r .state) ≡ true → 0 < length s
-      by (answer.Event (event.Start x p)) b g = omega (arith, b .1 .0, eof-facts es ps fresh s byte .within)
+      by : (a : Answer) → Balance a (unended (withNote es ps d s)) (unended (r .state)) (r .taken) (r .state .«waiting_count») → isRootAt0 a (r .state) ≡ true → 0 < length s
+      by (answer.Event (event.Start x p)) b g = omega (arith, b .1 .0, eof-facts es ps d s byte .within)
       by (answer.Event (event.End x)) b g = absurd (false≢true g)
       by (answer.Event (event.Data x p v)) b g = absurd (false≢true g)
       by (answer.NeedMore missing) b g = absurd (false≢true g)
@@ -278,9 +278,10 @@ module _ (size : ℕ) (some : 0 < size) where
       ∙ sym (read-last benchEntries benchParts n d s (ap (λ (x : Decoded). isEvent (x .answer)) (sym same) ∙ no-event (r .answer) none))
 
   -- from the start
-  pub run-reads-all : {s : List ℕ} {l : List Answered} → Answers size (nextAnswer size fresh s) s l → Octets s → length s ≤ 2 ^ 62 → noneAsks l ≡ true
-      → l ≡ readFrom benchEntries benchParts (256 * length s + 129) fresh s
-  run-reads-all {s} p byte few asks = reads-all p (256 * length s + 129) fresh refl byte (λ f. absurd (false≢true f)) (omega arith) asks (omega arith)
+  pub run-reads-all : (strict : Bool) {s : List ℕ} {l : List Answered} → AnswersTo strict size s l → Octets s → length s ≤ 2 ^ 62 → noneAsks l ≡ true
+      → l ≡ answersTo strict benchEntries benchParts s
+  unfolding withSettings
+  run-reads-all strict {s} p byte few asks = reads-all p (256 * length s + 129) (begun strict) refl byte (λ f. absurd (false≢true f)) (omega arith) asks (omega arith)
 
   -- ---- which runs these are
 
@@ -306,5 +307,5 @@ module _ (size : ℕ) (some : 0 < size) where
       let quiet : needsMore (r .answer) ≡ false = ap (λ (x : Decoded). needsMore (x .answer)) (is ∙ seen-all size d s h) ∙ eof-asks-no-more benchEntries benchParts d s in
       rw quiet
 
-  pub shorter-asks-no-more : {s : List ℕ} {l : List Answered} → Answers size (nextAnswer size fresh s) s l → Octets s → length s < size → noneAsks l ≡ true
-  shorter-asks-no-more p byte h = shorter-asks p fresh refl byte h
+  pub shorter-asks-no-more : (strict : Bool) {s : List ℕ} {l : List Answered} → AnswersTo strict size s l → Octets s → length s < size → noneAsks l ≡ true
+  shorter-asks-no-more strict p byte h = shorter-asks p (begun strict) refl byte h

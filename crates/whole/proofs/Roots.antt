@@ -14,15 +14,14 @@ use Rattle.basics.specs.Lists.{every, firstIndex, arrayPlaces, filled}
 use Rattle.basics.proofs.Bools.{absurd-eq, both}
 use Rattle.tools.specs.Bytes.{Octets}
 use Rattle.table.specs.Table.{Entry, tableOf}
-use Rattle.spec_util.specs.Ended.{isEndedBy}
-use Rattle.spec_util.specs.Walk.{noTag}
+use Rattle.spec_util.specs.Walk.{noTag, unknownAndEnded, endedTops}
 use Rattle.spec_util.specs.declared.types.OpenTag.{OpenTag}
 use Rattle.tag_parse.specs.declared.types.EBMLSize.{EBMLSize}
 use Rattle.tag_parse.specs.declared.types.EBMLSize.the-variants.{Known, Unknown}
 use Rattle.tag_parse.specs.declared.types.TagHeader.{TagHeader}
 use Rattle.tag_parse.proofs.Cases.{octets-drop}
 use Rattle.decoder_rules.specs.Record.{opens, endOf, withOpen, withWaiting, withNotes, oneMore, countedLast, counted, opened, closedTo, handedOut}
-use Rattle.decoder_rules.specs.OneCall.{isFull, step3, step7, noted, reaches, step9, endedTops, step10}
+use Rattle.decoder_rules.specs.OneCall.{isFull, step3, step7, noted, reaches, fitsInside, step9, step10}
 use Rattle.decoder_rules.specs.Moving.{masterAt, move, apply}
 use Rattle.decoder_rules.specs.EndOfInput.{isCut, decodeEof}
 use Rattle.decoder_rules.specs.declared.types.Action.{Action}
@@ -92,12 +91,12 @@ outermost-counted (suc (suc n)) (y ∷ l) m o =
     record { root = y; outermost = record { others = take (suc n) (set l n (oneMore (getD l n noTag))); is = refl }; known = ap (λ (x : OpenTag). x .known) first; end = ap endOf first }
 
 -- a master of known size is not ended by an ID
-tops-few : (t : List Entry) (x : ℕ) (l : List OpenTag) (m : OpenTag) → m .known ≡ true → endedTops t x (l ++ (m ∷ [])) ≤ length l
-unfolding endedTops
-tops-few t x [] m k = rw k (omega arith)
-tops-few t x (y ∷ l) m k = by (not (y .known) && isEndedBy t (y .id) x) (tops-few t x l m k)
+tops-few : (strict : Bool) (t : List Entry) (x : ℕ) (l : List OpenTag) (m : OpenTag) → m .known ≡ true → endedTops strict t x (l ++ (m ∷ [])) ≤ length l
+unfolding endedTops unknownAndEnded
+tops-few strict t x [] m k = rw k (omega arith)
+tops-few strict t x (y ∷ l) m k = by (unknownAndEnded strict t (y .known) (y .id) x) (tops-few strict t x l m k)
   where
-    by : (b : Bool) → endedTops t x (l ++ (m ∷ [])) ≤ length l → cond b (endedTops t x (l ++ (m ∷ [])) + 1) 0 ≤ suc (length l)
+    by : (b : Bool) → endedTops strict t x (l ++ (m ∷ [])) ≤ length l → cond b (endedTops strict t x (l ++ (m ∷ [])) + 1) 0 ≤ suc (length l)
     by true h = omega arith
     by false h = omega arith
 
@@ -148,8 +147,9 @@ full-root f d o z =
 kept-root : (t : List Entry) (x f : ℕ) (d : TagDecoder) → RootOpen f d → step10 t d x ≡ 0 → f ≤ d .position
 kept-root t x f d o z =
     let l = o .outermost .others in
-    let few = tops-few t x (reverse l) (o .root) (o .known) in
-    let same : endedTops t x (reverse (opens d)) ≡ endedTops t x (reverse l ++ (o .root ∷ [])) = ap (λ (k : List OpenTag). endedTops t x (reverse k)) (o .outermost .is) ∙ ap (endedTops t x) (reverse-cons (o .root) l) in
+    let strict = d .settings .strict in
+    let few = tops-few strict t x (reverse l) (o .root) (o .known) in
+    let same : endedTops strict t x (reverse (opens d)) ≡ endedTops strict t x (reverse l ++ (o .root ∷ [])) = ap (λ (k : List OpenTag). endedTops strict t x (reverse k)) (o .outermost .is) ∙ ap (endedTops strict t x) (reverse-cons (o .root) l) in
     absurd (omega (arith, z, few, same, length-reverse l, length-take (d .«open_count») (d .«open»), ap length (o .outermost .is)))
 
 -- ---- one call with the root open
@@ -160,7 +160,7 @@ passes (Fail e) = false
 
 -- an element of known size ends inside the root
 inside-root : (f : ℕ) (d : TagDecoder) (len n : ℕ) → RootOpen f d → step9 d len (Known n) ≡ Pass → d .position + (len + n) ≤ f
-unfolding step9 every reaches
+unfolding step9 every reaches fitsInside
 inside-root f d len n o p = by (leb (d .position + (len + n)) (endOf (o .root))) refl
   where
     q : passes (step9 d len (Known n)) ≡ true
@@ -240,6 +240,7 @@ unfolding move
 header-leaves f d o (exit.misplaced p) i z = absurd (false≢true i)
 header-leaves f d o (exit.oversized n p y g) i z = absurd (false≢true i)
 header-leaves f d o (exit.too-large n p y g k) i z = absurd (false≢true i)
+header-leaves f d o (exit.past-end p y g k) i z = absurd (false≢true i)
 header-leaves {t} {h} f d o (exit.ends-tops v k c) i z = closing-leaves f d o (kept-root t (h .id) f d o) c i z
 header-leaves f d o (exit.too-many at k g) i z = absurd (false≢true i)
 header-leaves {t} {h} f d o (exit.starts at k g) i z = inl (start-stage f d h (h .size) refl o (at .valid .size) z)
@@ -263,7 +264,7 @@ module _ (es ps : List ℕ) (d : TagDecoder) (s : List ℕ) (byte : Octets s) (s
   exit-leaves f o (exit.no-byte n y) i z = absurd (false≢true i)
   exit-leaves f o (exit.header-incomplete at e) i z = absurd (false≢true i)
   exit-leaves f o (exit.header-refused x at e) i z = absurd (false≢true i)
-  exit-leaves f o (exit.unknown-id h at g) i z = absurd (false≢true i)
+  exit-leaves f o (exit.id-refused h at g) i z = absurd (false≢true i)
   exit-leaves f o (exit.on-header h at g x) i z =
       header-leaves f (noted ps d (step7 (tableOf es ps) d h)) (subst (RootOpen f) (sym (step7-none h)) o) x i z
 
@@ -321,6 +322,7 @@ module _ (es ps : List ℕ) (d : TagDecoder) (s : List ℕ) (byte : Octets s) (s
   header-rests f e c (exit.misplaced p) i z = absurd (false≢true i)
   header-rests f e c (exit.oversized n p y g) i z = absurd (false≢true i)
   header-rests f e c (exit.too-large n p y g k) i z = absurd (false≢true i)
+  header-rests f e c (exit.past-end p y g k) i z = absurd (false≢true i)
   header-rests f e c (exit.ends-tops v k x) i z = closing-none e (c .none-open) k x
   header-rests f e c (exit.too-many at k g) i z = absurd (false≢true i)
   header-rests f e c (exit.starts at k g) i z =
@@ -345,7 +347,7 @@ module _ (es ps : List ℕ) (d : TagDecoder) (s : List ℕ) (byte : Octets s) (s
   exit-rests f c (exit.no-byte n y) i z = absurd (false≢true i)
   exit-rests f c (exit.header-incomplete at e) i z = absurd (false≢true i)
   exit-rests f c (exit.header-refused x at e) i z = absurd (false≢true i)
-  exit-rests f c (exit.unknown-id h at g) i z = absurd (false≢true i)
+  exit-rests f c (exit.id-refused h at g) i z = absurd (false≢true i)
   exit-rests f c (exit.on-header h at g x) i z =
       header-rests f (noted ps d (step7 (tableOf es ps) d h)) (subst (RootClosed f) (sym (step7-none h)) c) x i z
 

@@ -68,6 +68,7 @@ unfolding move counted withOpen withNotes opened
 header-balanced w some (exit.misplaced p) = tt
 header-balanced w some (exit.oversized n p z f) = tt
 header-balanced w some (exit.too-large n p z f g) = tt
+header-balanced w some (exit.past-end p z f g) = tt
 header-balanced w some (exit.ends-tops v k c) = closing-balanced w k c
 header-balanced w some (exit.too-many at k f) = tt
 header-balanced w some (exit.starts at k f) = (omega arith, (some, w))
@@ -87,7 +88,7 @@ module _ (es ps : List ℕ) (d : TagDecoder) (s : List ℕ) (byte : Octets s) wh
   exit-balanced (exit.no-byte n z) = tt
   exit-balanced (exit.header-incomplete at e) = tt
   exit-balanced (exit.header-refused x at e) = tt
-  exit-balanced (exit.unknown-id h at f) = tt
+  exit-balanced (exit.id-refused h at f) = tt
   exit-balanced (exit.on-header h at f x) =
       let i = header-sound (tableOf es ps) s h byte (at .read) in
       let some : 0 < h .len = let one = i .vint .vint .at-least-1 in omega (arith, i .taken) in
@@ -105,7 +106,7 @@ module _ (es ps : List ℕ) (d : TagDecoder) (s : List ℕ) (byte : Octets s) wh
   quiet-none-waits (exit.no-byte n z) q = n .reading .none-waiting
   quiet-none-waits (exit.header-incomplete at e) q = at .none-full .reading .none-waiting
   quiet-none-waits (exit.header-refused x at e) q = at .none-full .reading .none-waiting
-  quiet-none-waits (exit.unknown-id h at f) q = at .at-bytes .none-full .reading .none-waiting
+  quiet-none-waits (exit.id-refused h at f) q = at .at-bytes .none-full .reading .none-waiting
   quiet-none-waits (exit.on-header h at f x) q = at .at-bytes .none-full .reading .none-waiting
 
   end-balanced : {t : List Entry} {e : TagDecoder} {r : Decoded} → e .«waiting_count» ≡ 0 → EndExit t e s r → Balanced e r
@@ -227,6 +228,7 @@ module _ (es ps : List ℕ) (checked : checkTable es ps ≡ Passed) (d : TagDeco
   header-settles h k (exit.misplaced p) q = absurd (false≢true q)
   header-settles h k (exit.oversized n p z f) q = absurd (false≢true q)
   header-settles h k (exit.too-large n p z f g) q = absurd (false≢true q)
+  header-settles h k (exit.past-end p z f g) q = absurd (false≢true q)
   header-settles h k (exit.ends-tops v l (exit.closes c)) q = absurd (false≢true q)
   header-settles h k (exit.ends-tops v l (exit.no-master c)) q = absurd (false≢true q)
   header-settles h k (exit.too-many at m f) q = absurd (false≢true q)
@@ -247,7 +249,7 @@ module _ (es ps : List ℕ) (checked : checkTable es ps ≡ Passed) (d : TagDeco
   exit-start-settles (exit.no-byte n z) q = absurd (false≢true q)
   exit-start-settles (exit.header-incomplete at e) q = absurd (false≢true q)
   exit-start-settles (exit.header-refused x at e) q = absurd (false≢true q)
-  exit-start-settles (exit.unknown-id h at f) q = absurd (false≢true q)
+  exit-start-settles (exit.id-refused h at f) q = absurd (false≢true q)
   exit-start-settles (exit.on-header h at f x) q = header-settles h (header-spec (tableOf es ps) s h (at .read) .kind) x q
 
   end-no-start : {t : List Entry} {e : TagDecoder} {r : Decoded} → EndExit t e s r → isStart (r .answer) ≡ false

@@ -157,6 +157,8 @@ refused-not-whole error.FromUtf8Error p d = refl
 refused-not-whole error.ReadF64Mismatch p d = refl
 refused-not-whole (error.UnexpectedEOF cut) p d = refl
 refused-not-whole error.NotAMaster p d = refl
+refused-not-whole error.InvalidIdForm p d = refl
+refused-not-whole error.UnknownSizePastEnd p d = refl
 
 front-not-whole : (c : Seen) (v : Verdict) → saysWhole v ≡ false → saysWhole (ifFront c v) ≡ false
 front-not-whole c v e = by (c .front)

@@ -1,51 +1,59 @@
--- The check, over any run of the program with a buffer of so many zero bytes, on an input of at most 2^62 bytes that
--- comes in any pieces: what it calls WHOLE is a whole night with one record, and it calls such a night so where no
--- element is larger than the buffer; how the input is cut into pieces changes no verdict. Assumes nothing.
+-- The check, strict or as ported, over any run of the program with a buffer of so many zero bytes, on an input of at
+-- most 2^62 bytes that comes in any pieces: what it calls WHOLE is a whole night with one record, and it calls such a
+-- night so where no element is larger than the buffer; how the input is cut into pieces changes no verdict. Assumes
+-- nothing.
 use Prim.Native.Nat.{ℕ, _+_, _*_, _^_, _≤_, _<_, min}
 use mathlib.Core.Path.{_≡_, refl, sym, ap, subst, _∙_}
-use mathlib.Core.Bool.{true, false, false≢true}
+use mathlib.Core.Bool.{Bool, true, false, false≢true}
 use mathlib.Core.List.{List, [], _∷_}
 use native.Mathlib.Omega.{arith}
 use lib.ListN.{length, replicate}
 use Rattle.tools.specs.Bytes.{Octets}
 use Rattle.table.specs.BenchTable.{benchEntries, benchParts}
 use Rattle.table.proofs.Examples.{checks}
-use Rattle.decoder_rules.specs.Record.{fresh}
+use Rattle.decoder_rules.specs.Record.{fresh, withSettings}
 use Rattle.decoder_rules.specs.declared.types.Answer.{Answer}
 use Rattle.decoder_rules.specs.declared.types.Answer.the-variants as answer
 use Rattle.decoder_rules.specs.declared.types.Decoded.{Decoded}
 use Rattle.decoder_rules.specs.declared.types.Event.the-variants as event
-use Rattle.event_list.specs.Reading.{started}
+use Rattle.decoder_rules.specs.declared.types.TagDecoder.{TagDecoder}
+use Rattle.event_list.specs.Reading.{begun, started}
 use Rattle.event_list.specs.Run.{joined, NoneEmpty, Runs}
 use Rattle.event_list.specs.Whole.{Answered, answeredBy, Answers, goes-on, ends, AnswersTo}
+use Rattle.event_list.proofs.Begun.{ported-fresh}
 use Rattle.event_list.proofs.PrintsTheList.{runs-through, same-answers-however-cut}
 use Rattle.whole.specs.Checking.{verdictOf}
-use Rattle.whole.specs.Night.{isEvent, isRootAt0, hasFront, finishes, answersTo, feeds, noneAsks, IsOneWhole}
+use Rattle.whole.specs.Night.{isEvent, readFrom, isRootAt0, hasFront, finishes, answersTo, feeds, noneAsks, IsOneWhole}
 use Rattle.whole.specs.declared.types.Verdict.the-variants.{Whole}
 use Rattle.whole.proofs.Readings.{front-starts, front-not-empty, finish-later, bytes-all, feeds-few, run-reads-all, finish-asks-no-more}
 use Rattle.whole.proofs.Verdicts.{most, lastPosition, saysWhole, ShowsWhole, verdict-shows, shows-verdict, alone-not-whole}
 
 -- ---- of the answers to an input
 
-module _ (s : List ℕ) (byte : Octets s) (few : length s ≤ 2 ^ 62) where
+-- as ported they are those from a fresh decoder
+pub ported-answers : (es ps s : List ℕ) → answersTo false es ps s ≡ readFrom es ps (256 * length s + 129) fresh s
+ported-answers es ps s = ap (λ (d : TagDecoder). readFrom es ps (256 * length s + 129) d s) ported-fresh
+
+module _ (strict : Bool) (s : List ℕ) (byte : Octets s) (few : length s ≤ 2 ^ 62) where
   abbrev all : List Answered
-  all = answersTo benchEntries benchParts s
+  all = answersTo strict benchEntries benchParts s
 
   bytes-are : finishes all ≡ true → lastPosition all ≡ length s
-  bytes-are f = bytes-all benchEntries benchParts (256 * length s + 129) fresh s byte f ∙ omega arith
+  unfolding withSettings
+  bytes-are f = bytes-all benchEntries benchParts (256 * length s + 129) (begun strict) s byte f ∙ omega arith
 
   feeds-are : min (feeds all) most ≡ feeds all
-  feeds-are = omega (arith, feeds-few benchEntries benchParts (256 * length s + 129) fresh s byte)
+  feeds-are = omega (arith, feeds-few benchEntries benchParts (256 * length s + 129) (begun strict) s byte)
 
-  shown-one : (n m : ℕ) → ShowsWhole all n m → IsOneWhole benchEntries benchParts s n m
+  shown-one : (n m : ℕ) → ShowsWhole all n m → IsOneWhole strict benchEntries benchParts s n m
   shown-one n m w =
       record {
         whole =
             record {
-              not-empty = front-not-empty benchEntries benchParts (256 * length s + 129) s byte (w .front);
+              not-empty = front-not-empty benchEntries benchParts (256 * length s + 129) (begun strict) s byte (w .front);
               front = w .front;
               sizes = w .sizes;
-              starts = front-starts benchEntries benchParts (checks .bench-passes) (256 * length s + 129) s byte (w .front);
+              starts = front-starts benchEntries benchParts (checks .bench-passes) (256 * length s + 129) (begun strict) s byte (w .front);
               finish = w .finish;
             };
         one = w .one;
@@ -53,7 +61,7 @@ module _ (s : List ℕ) (byte : Octets s) (few : length s ≤ 2 ^ 62) where
         byte-count = w .byte-count ∙ bytes-are (w .finish);
       }
 
-  one-shown : (n m : ℕ) → IsOneWhole benchEntries benchParts s n m → ShowsWhole all n m
+  one-shown : (n m : ℕ) → IsOneWhole strict benchEntries benchParts s n m → ShowsWhole all n m
   one-shown n m w =
       record {
         front = w .whole .front;
@@ -101,29 +109,29 @@ by-shown [] n m w = absurd (false≢true (w .front))
 by-shown (a ∷ []) n m w = absurd (false≢true (finish-later a [] (front-event a (w .front)) (w .finish) .0))
 by-shown (a ∷ b ∷ l) n m w = shows-verdict a b l (front-event a (w .front)) n m w
 
-module _ (size : ℕ) (some : 0 < size) (ps : List (List ℕ)) (apart : NoneEmpty ps) (byte : Octets (joined ps)) (few : length (joined ps) ≤ 2 ^ 62) {l : List Answered}
-    (run : Runs started (replicate size 0) ps l) where
-  answers : AnswersTo size (joined ps) l
-  answers = runs-through size ps apart byte few run
+module _ (strict : Bool) (size : ℕ) (some : 0 < size) (ps : List (List ℕ)) (apart : NoneEmpty ps) (byte : Octets (joined ps)) (few : length (joined ps) ≤ 2 ^ 62) {l : List Answered}
+    (run : Runs (started strict) (replicate size 0) ps l) where
+  answers : AnswersTo strict size (joined ps) l
+  answers = runs-through strict size ps apart byte few run
 
   -- what is called WHOLE is whole
-  pub whole-is-whole : (n m : ℕ) → verdictOf l ≡ Whole n m → IsOneWhole benchEntries benchParts (joined ps) n m
+  pub whole-is-whole : (n m : ℕ) → verdictOf l ≡ Whole n m → IsOneWhole strict benchEntries benchParts (joined ps) n m
   whole-is-whole n m v =
       let shown = shown-by answers n m v in
-      let same = run-reads-all size some answers byte few (finish-asks-no-more size some answers (shown .finish)) in
-      shown-one (joined ps) byte few n m (subst (λ (x : List Answered). ShowsWhole x n m) same shown)
+      let same = run-reads-all size some strict answers byte few (finish-asks-no-more size some answers (shown .finish)) in
+      shown-one strict (joined ps) byte few n m (subst (λ (x : List Answered). ShowsWhole x n m) same shown)
 
   -- and what is whole is called so, where no element is larger than the buffer
-  pub whole-is-told : (n m : ℕ) → noneAsks l ≡ true → IsOneWhole benchEntries benchParts (joined ps) n m → verdictOf l ≡ Whole n m
+  pub whole-is-told : (n m : ℕ) → noneAsks l ≡ true → IsOneWhole strict benchEntries benchParts (joined ps) n m → verdictOf l ≡ Whole n m
   whole-is-told n m asks w =
-      let same = run-reads-all size some answers byte few asks in
-      by-shown l n m (subst (λ (x : List Answered). ShowsWhole x n m) (sym same) (one-shown (joined ps) byte few n m w))
+      let same = run-reads-all size some strict answers byte few asks in
+      by-shown l n m (subst (λ (x : List Answered). ShowsWhole x n m) (sym same) (one-shown strict (joined ps) byte few n m w))
 
   -- and the verdict is that on the answers to the whole input, where no element is larger than the buffer
-  pub verdict-of-input : noneAsks l ≡ true → verdictOf l ≡ verdictOf (answersTo benchEntries benchParts (joined ps))
-  verdict-of-input asks = ap verdictOf (run-reads-all size some answers byte few asks)
+  pub verdict-of-input : noneAsks l ≡ true → verdictOf l ≡ verdictOf (answersTo strict benchEntries benchParts (joined ps))
+  verdict-of-input asks = ap verdictOf (run-reads-all size some strict answers byte few asks)
 
 -- however the input is cut into pieces, the verdict is the same
-pub same-verdict-however-cut : (size : ℕ) (ps qs : List (List ℕ)) {l k : List Answered} → joined ps ≡ joined qs → NoneEmpty ps → NoneEmpty qs → Octets (joined ps) → length (joined ps) ≤ 2 ^ 62
-    → Runs started (replicate size 0) ps l → Runs started (replicate size 0) qs k → verdictOf l ≡ verdictOf k
-same-verdict-however-cut size ps qs e somep someq byte few run run' = ap verdictOf (same-answers-however-cut size ps qs e somep someq byte few run run')
+pub same-verdict-however-cut : (strict : Bool) (size : ℕ) (ps qs : List (List ℕ)) {l k : List Answered} → joined ps ≡ joined qs → NoneEmpty ps → NoneEmpty qs → Octets (joined ps) → length (joined ps) ≤ 2 ^ 62
+    → Runs (started strict) (replicate size 0) ps l → Runs (started strict) (replicate size 0) qs k → verdictOf l ≡ verdictOf k
+same-verdict-however-cut strict size ps qs e somep someq byte few run run' = ap verdictOf (same-answers-however-cut strict size ps qs e somep someq byte few run run')

@@ -110,6 +110,8 @@ refusedAs error.FromUtf8Error p d = verdict.Refused (errorNumber error.FromUtf8E
 refusedAs error.ReadF64Mismatch p d = verdict.Refused (errorNumber error.ReadF64Mismatch) p
 refusedAs (error.UnexpectedEOF cut) p d = verdict.Cut (d .position) (rootOf d) (bytesThere (cut .part) (d .position))
 refusedAs error.NotAMaster p d = verdict.Refused (errorNumber error.NotAMaster) p
+refusedAs error.InvalidIdForm p d = verdict.Refused (errorNumber error.InvalidIdForm) p
+refusedAs error.UnknownSizePastEnd p d = verdict.Refused (errorNumber error.UnknownSizePastEnd) p
 
 -- the finish at the position p: no event, a Start without a size, several records, or one that is whole
 abbrev pub finishedAs : Seen → ℕ → Verdict

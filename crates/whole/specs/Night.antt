@@ -1,17 +1,18 @@
--- When a night is whole: of an input that is all there, by the answers of the end of input, one after another.
+-- When a night is whole, read strictly or as ported: of an input that is all there, by the answers of the end of input,
+-- one after another.
 use Prim.Native.Nat.{ℕ, zero, suc, _+_, _-_, _*_, _<_}
 use mathlib.Core.Path.{_≡_}
 use mathlib.Core.Bool.{Bool, true, false, cond, not, _&&_}
 use mathlib.Core.List.{List, [], _∷_}
 use lib.Dec.{ltb, eqb}
 use lib.ListN.{length, drop}
-use Rattle.decoder_rules.specs.Record.{fresh}
 use Rattle.decoder_rules.specs.Moving.{needsMore}
 use Rattle.decoder_rules.specs.EndOfInput.{decodeEof}
 use Rattle.decoder_rules.specs.declared.types.Answer.{Answer}
 use Rattle.decoder_rules.specs.declared.types.Answer.the-variants as answer
 use Rattle.decoder_rules.specs.declared.types.Event.the-variants as event
 use Rattle.decoder_rules.specs.declared.types.TagDecoder.{TagDecoder}
+use Rattle.event_list.specs.Reading.{begun}
 use Rattle.event_list.specs.Whole.{Answered, answeredBy}
 use Rattle.whole.specs.Checking.{topIsSized}
 
@@ -34,8 +35,8 @@ readFrom es ps (suc n) d s =
     answeredBy r ∷ cond (isEvent (r .answer)) rest []
 
 -- the answers to the input s from a fresh decoder: there are no more than 256 for each byte and 129
-abbrev pub answersTo : List ℕ → List ℕ → List ℕ → List Answered
-answersTo es ps s = readFrom es ps (256 * length s + 129) fresh s
+abbrev pub answersTo : Bool → List ℕ → List ℕ → List ℕ → List Answered
+answersTo strict es ps s = readFrom es ps (256 * length s + 129) (begun strict) s
 
 -- ---- what they show
 
@@ -140,16 +141,16 @@ noneAsks (a ∷ l) = not (needsMore (a .answer)) && noneAsks l
 
 -- a night that is whole: it is not empty; it begins with the Start of a root at 0; every Start has a size; no End is
 -- without a Start; and it ends with the finish
-pub record IsWhole (es ps s : List ℕ) : Type 0 where
+pub record IsWhole (strict : Bool) (es ps s : List ℕ) : Type 0 where
   pub not-empty : 0 < length s
-  pub front : hasFront (answersTo es ps s) ≡ true
-  pub sizes : allSized (answersTo es ps s) ≡ true
-  pub starts : allStarted 0 (answersTo es ps s) ≡ true
-  pub finish : finishes (answersTo es ps s) ≡ true
+  pub front : hasFront (answersTo strict es ps s) ≡ true
+  pub sizes : allSized (answersTo strict es ps s) ≡ true
+  pub starts : allStarted 0 (answersTo strict es ps s) ≡ true
+  pub finish : finishes (answersTo strict es ps s) ≡ true
 
 -- it is whole and is one record, with n feeds and m bytes
-pub record IsOneWhole (es ps s : List ℕ) (n m : ℕ) : Type 0 where
-  pub whole : IsWhole es ps s
-  pub one : records (answersTo es ps s) ≡ 1
-  pub feed-count : n ≡ feeds (answersTo es ps s)
+pub record IsOneWhole (strict : Bool) (es ps s : List ℕ) (n m : ℕ) : Type 0 where
+  pub whole : IsWhole strict es ps s
+  pub one : records (answersTo strict es ps s) ≡ 1
+  pub feed-count : n ≡ feeds (answersTo strict es ps s)
   pub byte-count : m ≡ length s

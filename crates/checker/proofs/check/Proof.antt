@@ -7,10 +7,10 @@ use Rattle.checker.proofs.check.Statement.{statement}
 use Rattle.checker.proofs.check.Tie as tie
 
 abbrev Inv-loop : tie.InvT-loop
-Inv-loop buffer₀ listing₀ seen₀ steps-left₀ buffer listing seen steps-left = length buffer ≡ length buffer₀
+Inv-loop strict buffer₀ listing₀ seen₀ steps-left₀ buffer listing seen steps-left = length buffer ≡ length buffer₀
 
 abbrev μ-loop : tie.MeasureT-loop
-μ-loop buffer₀ listing₀ seen₀ steps-left₀ buffer listing seen steps-left = steps-left
+μ-loop strict buffer₀ listing₀ seen₀ steps-left₀ buffer listing seen steps-left = steps-left
 
 start-requires : tie.Need-start-requires Inv-loop μ-loop
 start-requires c κs = search needs

@@ -7,10 +7,10 @@ use Rattle.lister.proofs.print_list.Statement.{statement}
 use Rattle.lister.proofs.print_list.Tie as tie
 
 abbrev Inv-loop : tie.InvT-loop
-Inv-loop list buffer₀ listing₀ seen₀ steps-left₀ buffer listing seen steps-left = length buffer ≡ length buffer₀
+Inv-loop list strict buffer₀ listing₀ seen₀ steps-left₀ buffer listing seen steps-left = length buffer ≡ length buffer₀
 
 abbrev μ-loop : tie.MeasureT-loop
-μ-loop list buffer₀ listing₀ seen₀ steps-left₀ buffer listing seen steps-left = steps-left
+μ-loop list strict buffer₀ listing₀ seen₀ steps-left₀ buffer listing seen steps-left = steps-left
 
 start-requires : tie.Need-start-requires Inv-loop μ-loop
 start-requires c κs = search needs

@@ -1,14 +1,17 @@
 -- `decoder_decide::decide::steps6_11`: an ID without a type, or the note, and steps 8 to 11 on the record with it.
 -- Assumes nothing.
-use mathlib.Core.Path.{_≡_, sym, _∙_}
+use mathlib.Core.Path.{_≡_, sym, ap, _∙_}
 use mathlib.Core.Bool.{true}
 use borrow.Author.Tests.{not-true, not-false}
 use Rattle.table.specs.Table.{tableOf}
 use Rattle.decoder_rules.specs.OneCall.{noted, step6, step7}
+use Rattle.decoder_rules.specs.Deciding.{plain}
+use Rattle.decoder_rules.specs.declared.types.Action.the-variants as act
+use Rattle.decoder_rules.specs.declared.types.DecodeError.{DecodeError}
 use Rattle.decoder_rules.specs.declared.types.TagDecoder.{TagDecoder}
 use Rattle.decoder_rules.specs.declared.types.Note.the-variants.{NoNote, Settle}
 use Rattle.decoder_look.specs.Summary.{headerView}
-use Rattle.decoder_rules.proofs.Exits.{unknown-id-decides, noted-decides}
+use Rattle.decoder_rules.proofs.Exits.{id-refused-decides, noted-decides}
 use Rattle.decoder_decide.proofs.GoodHeaders.{note-of-path, note-short}
 use borrow.Author.Needs.{needs}
 use Rattle.decoder_decide.proofs.decide.steps6_11.Statement.{statement}
@@ -26,11 +29,18 @@ noted-by c d e = rw e at (c .settling-note .ensures) ∙ note-of-path _ _ d _ (c
 is-id-allowed-requires : tie.Need-is-id-allowed-requires
 is-id-allowed-requires c κs = search needs
 
+id-refusal-requires : tie.Need-id-refusal-requires
+id-refusal-requires c κs = search needs
+
 plain-requires : tie.Need-plain-requires
 plain-requires c κs = search needs
 
 returns : tie.Need-returns
-returns c d e shown = c .plain .ensures ∙ unknown-id-decides _ _ d _ _ (sym (rw e at (c .before .before .is-id-allowed .ensures)) ∙ not-true _ (c .before .if1 .taken))
+returns c d e shown =
+    let i = c .before in
+    let refused = rw e at (i .id-refusal .ensures) in
+    c .plain .ensures ∙ ap (λ (x : DecodeError). plain (act.Refuse x)) refused
+    ∙ id-refused-decides _ _ d _ _ (sym (rw e at (i .before .before .is-id-allowed .ensures)) ∙ not-true _ (i .before .if1 .taken))
 
 settling-note-requires : tie.Need-settling-note-requires
 settling-note-requires c κs = search needs
@@ -71,6 +81,7 @@ steps6-11-spec =
     tie.close
     (tie.spec
     is-id-allowed-requires
+    id-refusal-requires
     plain-requires
     returns
     settling-note-requires

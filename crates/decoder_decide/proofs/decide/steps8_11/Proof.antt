@@ -30,8 +30,8 @@ returns c d e shown = invalid-decides _ d _ _ (sym (c .before .before .before .v
 enum-told : tie.Need-enum-told
 enum-told c = search needs
 
-step10-requires : tie.Need-step10-requires
-step10-requires c κs = search needs
+left-open-requires : tie.Need-left-open-requires
+left-open-requires c κs = search needs
 
 close-or-fault-requires : tie.Need-close-or-fault-requires
 close-or-fault-requires c κs = search needs
@@ -39,7 +39,7 @@ close-or-fault-requires c κs = search needs
 returns-2 : tie.Need-returns-2
 returns-2 c d e shown =
     let k = c .before .before in
-    let q = rw e at (k .step10 .ensures (opens d) shown) in
+    let q = rw e at (k .left-open .ensures (opens d) shown) in
     let v = valid (k .before) d e shown in
     c .close-or-fault .ensures d (shown .shown-ids) ∙ ap (closeOrFault _ d) q
     ∙ header-decides _ d _ _ (ends-tops v (rw q at (rw e at (c .before .if1 .taken))) (closing-exits _ d _))
@@ -52,7 +52,7 @@ step11-requires c κs =
 returns-3 : tie.Need-returns-3
 returns-3 c d e shown =
     let k = c .before .before in
-    let q = rw e at (k .step10 .ensures (opens d) shown) in
+    let q = rw e at (k .left-open .ensures (opens d) shown) in
     let v = valid (k .before) d e shown in
     element-decides _ d _ _ (record { valid = v; none-ended = rw q at (rw e at (c .before .if1 .left)) }) (rw e at (c .step11 .ensures))
 
@@ -64,7 +64,7 @@ steps8-11-spec =
     enum-known-e
     returns
     enum-told
-    step10-requires
+    left-open-requires
     close-or-fault-requires
     returns-2
     step11-requires

@@ -13,18 +13,18 @@ use Rattle.decoder_decide.proofs.element.read_element.Tie as tie
 add-total : tie.Need-add-total
 add-total c = search needs
 
-sub-t12 : tie.Need-sub-t12
-sub-t12 c = search needs
+sub-t13 : tie.Need-sub-t13
+sub-t13 c = search needs
 
 returns : tie.Need-returns
 unfolding readElement
 returns c = rw (lt-ltb _ _ (c .if1 .taken))
 
-add-t14 : tie.Need-add-t14
-add-t14 c = search needs
+add-t15 : tie.Need-add-t15
+add-t15 c = search needs
 
-add-t16 : tie.Need-add-t16
-add-t16 c = search needs
+add-t17 : tie.Need-add-t17
+add-t17 c = search needs
 
 sub-value-of : tie.Need-sub-value-of
 sub-value-of c = search needs
@@ -36,11 +36,13 @@ part-value-of-end : tie.Need-part-value-of-end
 part-value-of-end c = search needs
 
 value-of-requires : tie.Need-value-of-requires
-value-of-requires c κs k =
+value-of-requires c κs =
     let t = c .before .before .before in
     let a = t .args in
     let rest = drop (a .h .len) (a .input .now) in
-    omega (arith, t .pre .3 k, length-take (a .h .len + a .n - a .h .len) rest, min-le-left (a .h .len + a .n - a .h .len) (length rest))
+    let l = length-take (a .h .len + a .n - a .h .len) rest in
+    let m = min-le-left (a .h .len + a .n - a .h .len) (length rest) in
+    ((λ k. omega (arith, t .pre .3 k, l, m)), omega (arith, l, m))
 
 data-or-requires : tie.Need-data-or-requires
 data-or-requires c κs = search needs
@@ -57,10 +59,10 @@ read-element-spec =
     tie.close
     (tie.spec
     add-total
-    sub-t12
+    sub-t13
     returns
-    add-t14
-    add-t16
+    add-t15
+    add-t17
     sub-value-of
     part-value-of-start
     part-value-of-end

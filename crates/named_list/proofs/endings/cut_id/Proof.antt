@@ -45,6 +45,12 @@ enum-known-error c = search needs
 enum-told-13 : tie.Need-enum-told-13
 enum-told-13 c = search needs
 
+enum-told-14 : tie.Need-enum-told-14
+enum-told-14 c = search needs
+
+enum-told-15 : tie.Need-enum-told-15
+enum-told-15 c = search needs
+
 returns : tie.Need-returns
 returns c = search needs
 
@@ -87,6 +93,12 @@ returns-13 c = rw (c .before .error .given .1)
 returns-14 : tie.Need-returns-14
 returns-14 c = search needs
 
+returns-15 : tie.Need-returns-15
+returns-15 c = search needs
+
+returns-16 : tie.Need-returns-16
+returns-16 c = search needs
+
 pub cut-id-spec : {M : Type 1} → statement M
 cut-id-spec =
     tie.close
@@ -105,6 +117,8 @@ cut-id-spec =
     enum-told-12
     enum-known-error
     enum-told-13
+    enum-told-14
+    enum-told-15
     returns
     returns-2
     returns-3
@@ -118,4 +132,6 @@ cut-id-spec =
     returns-11
     returns-12
     returns-13
-    returns-14)
+    returns-14
+    returns-15
+    returns-16)

@@ -49,7 +49,19 @@ returns-4 : tie.Need-returns-4
 unfolding meaning
 returns-4 c =
     let e = c .before .before .before .before in
-    simp (le-ltb _ _ (e .if3 .left), le-ltb _ _ (e .before .if2 .left), le-ltb _ _ (e .before .before .if1 .left)) (c .before .before .put-inner-meaning2 .ensures)
+    simp (lt-ltb _ _ (e .if4 .taken), le-ltb _ _ (e .before .if3 .left), le-ltb _ _ (e .before .before .if2 .left), le-ltb _ _ (e .before .before .before .if1 .left)) (c .before .before .put-inner-meaning2 .ensures)
+
+put-strict-meaning-requires : tie.Need-put-strict-meaning-requires
+put-strict-meaning-requires c κs = search needs
+
+same-length-5 : tie.Need-same-length-5
+same-length-5 c = search needs
+
+returns-5 : tie.Need-returns-5
+unfolding meaning
+returns-5 c =
+    let e = c .before .before .before .before in
+    simp (le-ltb _ _ (e .if4 .left), le-ltb _ _ (e .before .if3 .left), le-ltb _ _ (e .before .before .if2 .left), le-ltb _ _ (e .before .before .before .if1 .left)) (c .before .before .put-strict-meaning .ensures)
 
 pub put-meaning-spec : {M : Type 1} → statement M
 put-meaning-spec =
@@ -66,4 +78,7 @@ put-meaning-spec =
     returns-3
     put-inner-meaning-requires-2
     same-length-4
-    returns-4)
+    returns-4
+    put-strict-meaning-requires
+    same-length-5
+    returns-5)

@@ -8,12 +8,12 @@ returns : tie.Need-returns
 unfolding unknownAndEnded
 returns c = rw (c .if1 .taken)
 
-is-ended-by-requires : tie.Need-is-ended-by-requires
-is-ended-by-requires c κs = search needs
+is-ended-in-requires : tie.Need-is-ended-in-requires
+is-ended-in-requires c κs = search needs
 
 returns-2 : tie.Need-returns-2
 unfolding unknownAndEnded
-returns-2 c = rw (c .before .if1 .left) (c .is-ended-by .ensures)
+returns-2 c = rw (c .before .if1 .left) (c .is-ended-in .ensures)
 
 pub unknown-and-ended-spec : {M : Type 1} → statement M
-unknown-and-ended-spec = tie.close (tie.spec returns is-ended-by-requires returns-2)
+unknown-and-ended-spec = tie.close (tie.spec returns is-ended-in-requires returns-2)

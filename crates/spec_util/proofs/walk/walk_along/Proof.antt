@@ -17,14 +17,14 @@ use Rattle.spec_util.proofs.walk.walk_along.Statement.{statement}
 use Rattle.spec_util.proofs.walk.walk_along.Tie as tie
 
 abbrev Inv-loop : tie.InvT-loop
-Inv-loop entries parts path id ids knowns n count marker₀ counter₀ i₀ marker counter i =
+Inv-loop strict entries parts path id ids knowns n count marker₀ counter₀ i₀ marker counter i =
     (i ≤ count)
     × (counter ≤ i)
-    × (walkFrom (tableOf entries parts) (partsIn (partsOf parts) path) id 0 0 (mastersShown ids knowns n)
-    ≡ walkFrom (tableOf entries parts) (partsIn (partsOf parts) path) id marker counter (drop i (mastersShown ids knowns n)))
+    × (walkFrom strict (tableOf entries parts) (partsIn (partsOf parts) path) id 0 0 (mastersShown ids knowns n)
+    ≡ walkFrom strict (tableOf entries parts) (partsIn (partsOf parts) path) id marker counter (drop i (mastersShown ids knowns n)))
 
 abbrev μ-loop : tie.MeasureT-loop
-μ-loop entries parts path id ids knowns n count marker₀ counter₀ i₀ marker counter i = count - i
+μ-loop strict entries parts path id ids knowns n count marker₀ counter₀ i₀ marker counter i = count - i
 
 abbrev start : tie.At-loop Inv-loop μ-loop → tie.Start Inv-loop μ-loop
 start c = c .before .before .before .before .before .before
@@ -47,7 +47,7 @@ in-reach c = omega (arith, many (c .before))
 
 -- the step at the words that were read, which is the step at the master that they show
 told : (c : tie.After-walk-master Inv-loop μ-loop) → let t = c .before .before .before .before in
-    walkMaster (table t) (path-read t) (start t .args .id) (getD (masters t) (t .loop .i) noTag .id) (getD (masters t) (t .loop .i) noTag .known) (t .loop .marker) (t .loop .counter)
+    walkMaster (start t .args .strict) (table t) (path-read t) (start t .args .id) (getD (masters t) (t .loop .i) noTag .id) (getD (masters t) (t .loop .i) noTag .known) (t .loop .marker) (t .loop .counter)
     ≡ c .walk-master .result
 told c =
     let t = c .before .before .before .before in
@@ -81,7 +81,7 @@ returns : tie.Need-returns Inv-loop μ-loop
 returns c =
     let w = c .before .before in
     let t = w .before .before .before .before in
-    sym (t .loop .inv .2 ∙ walk-accepts _ _ _ _ _ _ _ (in-reach (w .before .before .before)) (told w ∙ c .enum-told .given .1))
+    sym (t .loop .inv .2 ∙ walk-accepts _ _ _ _ _ _ _ _ (in-reach (w .before .before .before)) (told w ∙ c .enum-told .given .1))
 
 enum-told-2 : tie.Need-enum-told-2 Inv-loop μ-loop
 enum-told-2 c = search needs
@@ -90,7 +90,7 @@ returns-2 : tie.Need-returns-2 Inv-loop μ-loop
 returns-2 c =
     let w = c .before .before in
     let t = w .before .before .before .before in
-    sym (t .loop .inv .2 ∙ walk-refuses _ _ _ _ _ _ _ (in-reach (w .before .before .before)) (told w ∙ c .enum-told2 .given .1))
+    sym (t .loop .inv .2 ∙ walk-refuses _ _ _ _ _ _ _ _ (in-reach (w .before .before .before)) (told w ∙ c .enum-told2 .given .1))
 
 enum-known-next : tie.Need-enum-known-next Inv-loop μ-loop
 enum-known-next c = search needs
@@ -107,8 +107,8 @@ loop-again c =
     let t = w .before .before .before .before in
     let on = told w ∙ c .before .next .given .1 in (
       omega arith,
-      omega (arith, counter-grows _ _ _ _ _ _ _ on),
-      t .loop .inv .2 ∙ walk-goes-on _ _ _ _ _ _ _ (in-reach (w .before .before .before)) on,
+      omega (arith, counter-grows _ _ _ _ _ _ _ _ on),
+      t .loop .inv .2 ∙ walk-goes-on _ _ _ _ _ _ _ _ (in-reach (w .before .before .before)) on,
     )
 
 walk-end-requires : tie.Need-walk-end-requires Inv-loop μ-loop
@@ -118,7 +118,7 @@ returns-3 : tie.Need-returns-3 Inv-loop μ-loop
 returns-3 c =
     let t = c .before .before in
     let past : length (masters t) ≤ t .loop .i = omega (arith, many t) in
-    c .walk-end .ensures ∙ sym (t .loop .inv .2 ∙ walk-ends _ _ _ _ _ _ _ past)
+    c .walk-end .ensures ∙ sym (t .loop .inv .2 ∙ walk-ends _ _ _ _ _ _ _ _ past)
 
 pub walk-along-spec : {M : Type 1} → statement M
 walk-along-spec =

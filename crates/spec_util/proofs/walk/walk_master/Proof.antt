@@ -4,12 +4,12 @@ use borrow.Author.Needs.{needs}
 use Rattle.spec_util.proofs.walk.walk_master.Statement.{statement}
 use Rattle.spec_util.proofs.walk.walk_master.Tie as tie
 
-unknown-and-ended-requires : tie.Need-unknown-and-ended-requires
-unknown-and-ended-requires c κs = search needs
+accepts-at-once-requires : tie.Need-accepts-at-once-requires
+accepts-at-once-requires c κs = search needs
 
 returns : tie.Need-returns
 unfolding walkMaster
-returns c = rw (← c .before .unknown-and-ended .ensures, c .if1 .taken)
+returns c = rw (← c .before .accepts-at-once .ensures, c .if1 .taken)
 
 counted-requires : tie.Need-counted-requires
 counted-requires c κs = search needs
@@ -19,9 +19,9 @@ walk-part-requires c κs = search needs
 
 returns-2 : tie.Need-returns-2
 unfolding walkMaster
-returns-2 c = rw (← c .before .before .before .unknown-and-ended .ensures, c .before .before .if1 .left, ← c .before .counted .ensures .0) (c .walk-part .ensures)
+returns-2 c = rw (← c .before .before .before .accepts-at-once .ensures, c .before .before .if1 .left, ← c .before .counted .ensures .0) (c .walk-part .ensures)
 
 pub walk-master-spec : {M : Type 1} → statement M
 walk-master-spec =
     tie.close
-    (tie.spec unknown-and-ended-requires returns counted-requires walk-part-requires returns-2)
+    (tie.spec accepts-at-once-requires returns counted-requires walk-part-requires returns-2)

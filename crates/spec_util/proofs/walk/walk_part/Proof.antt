@@ -14,10 +14,10 @@ abbrev path : tie.Start → List PathPart
 path c = partsIn (partsOf (c .args .parts .now)) (c .args .path)
 
 abbrev walked : tie.Start → Walk
-walked c = walkPart (path c) (c .args .master-id) (c .args .marker) (c .args .counter)
+walked c = walkPart (c .args .strict) (path c) (c .args .master-id) (c .args .marker) (c .args .counter)
 
 abbrev walked-at : tie.Start → PathPart → Walk
-walked-at c part = walkAt (path c) part (c .args .master-id) (c .args .marker) (c .args .counter)
+walked-at c part = walkAt (c .args .strict) (path c) part (c .args .master-id) (c .args .marker) (c .args .counter)
 
 -- where the marker is in the path, the part that was read decides
 by-part : (c : tie.After-path-part) → walked (c .before .before .before .before) ≡ walked-at (c .before .before .before .before) (c .path-part .result)
@@ -37,8 +37,8 @@ path-part-requires c κs = search needs
 enum-known-id : tie.Need-enum-known-id
 enum-known-id c = search needs
 
-add-t14 : tie.Need-add-t14
-add-t14 c = search needs
+add-t15 : tie.Need-add-t15
+add-t15 c = search needs
 
 returns-2 : tie.Need-returns-2
 unfolding walkAt
@@ -47,19 +47,15 @@ returns-2 c = rw (by-part (c .before .before .before .before), c .before .before
 enum-known-min : tie.Need-enum-known-min
 enum-known-min c = search needs
 
-add-walk-global : tie.Need-add-walk-global
-add-walk-global c = search needs
-
-walk-global-requires : tie.Need-walk-global-requires
-walk-global-requires c κs = search needs
+walk-global-in-requires : tie.Need-walk-global-in-requires
+walk-global-in-requires c κs = search needs
 
 returns-3 : tie.Need-returns-3
 unfolding walkAt
 returns-3 c = rw (by-part (c .before .before .before .before), c .before .before .id .given .1, ne-eqb _ _ (c .if2 .left))
 
 returns-4 : tie.Need-returns-4
-unfolding walkAt
-returns-4 c = rw (by-part (c .before .before .before .before), c .before .before .min .given .1) (c .walk-global .ensures)
+returns-4 c = rw (by-part (c .before .before .before .before), c .before .before .min .given .1) (c .walk-global-in .ensures)
 
 pub walk-part-spec : {M : Type 1} → statement M
 walk-part-spec =
@@ -69,10 +65,9 @@ walk-part-spec =
     returns
     path-part-requires
     enum-known-id
-    add-t14
+    add-t15
     returns-2
     enum-known-min
-    add-walk-global
-    walk-global-requires
+    walk-global-in-requires
     returns-3
     returns-4)

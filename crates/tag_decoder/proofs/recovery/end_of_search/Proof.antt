@@ -29,10 +29,10 @@ use Rattle.tag_decoder.proofs.recovery.end_of_search.Statement.{stateme
 use Rattle.tag_decoder.proofs.recovery.end_of_search.Tie as tie
 
 abbrev Inv-loop : tie.InvT-loop
-Inv-loop entries parts input n start allow-ids e₀ i₀ e i = Searched parts (tableOf entries parts) e₀ input e i
+Inv-loop entries parts input n start strict allow-ids e₀ i₀ e i = Searched parts (tableOf entries parts) e₀ input e i
 
 abbrev μ-loop : tie.MeasureT-loop
-μ-loop entries parts input n start allow-ids e₀ i₀ e i = n - i
+μ-loop entries parts input n start strict allow-ids e₀ i₀ e i = n - i
 
 -- what stands where a header was read: the arguments, the loop's locals and the header
 abbrev start : tie.After-settling-note Inv-loop μ-loop → tie.Start Inv-loop μ-loop

@@ -13,23 +13,23 @@ use Rattle.tag_decoder.proofs.recovery.next_place.Statement.{statement}
 use Rattle.tag_decoder.proofs.recovery.next_place.Tie as tie
 
 abbrev Inv-loop : tie.InvT-loop
-Inv-loop entries parts allow-ids input from n i₀ i = PassedTo (tableOf entries parts) allow-ids input from i
+Inv-loop entries parts strict allow-ids input from n i₀ i = PassedTo (tableOf entries parts) strict allow-ids input from i
 
 abbrev μ-loop : tie.MeasureT-loop
-μ-loop entries parts allow-ids input from n i₀ i = n - i
+μ-loop entries parts strict allow-ids input from n i₀ i = n - i
 
 -- what was told of place i
 told : (c : tie.After-may-end Inv-loop μ-loop) →
     let a = c .before .before .before .before .before .before .before .before .args in
-    c .may-end .result ≡ mayEnd (a .allow-ids) (readHeader (tableOf (a .entries .now) (a .parts .now)) (drop (c .before .before .before .before .loop .i) (a .input .now)))
+    c .may-end .result ≡ mayEnd (a .strict) (a .allow-ids) (readHeader (tableOf (a .entries .now) (a .parts .now)) (drop (c .before .before .before .before .loop .i) (a .input .now)))
 told c =
     let a = c .before .before .before .before .before .before .before .before .args in
     let t = tableOf (a .entries .now) (a .parts .now) in
     c .may-end .ensures
-    ∙ ap (mayEnd (a .allow-ids)) (c .before .read-header .ensures ∙ ap (readHeader t) (rest-is (c .before .before .before .before .loop .i) (a .input .now)))
+    ∙ ap (mayEnd (a .strict) (a .allow-ids)) (c .before .read-header .ensures ∙ ap (readHeader t) (rest-is (c .before .before .before .before .loop .i) (a .input .now)))
 
 loop-holds : tie.Need-loop-holds Inv-loop μ-loop
-loop-holds c = passed-none _ _ _ _ (c .before .before .before .pre)
+loop-holds c = passed-none _ _ _ _ _ (c .before .before .before .pre)
 
 sub-read-header : tie.Need-sub-read-header Inv-loop μ-loop
 sub-read-header c = omega arith
@@ -59,7 +59,7 @@ loop-again : tie.Need-loop-again Inv-loop μ-loop
 loop-again c =
     let l = c .before .before .before .before .before .loop in
     let a = c .before .before .before .before .before .before .before .before .before .args in
-    passed-on (tableOf (a .entries .now) (a .parts .now)) (a .allow-ids) (a .input .now) (a .from) (l .i) (l .inv) (omega arith) (sym (told (c .before)) ∙ c .if1 .left)
+    passed-on (tableOf (a .entries .now) (a .parts .now)) (a .strict) (a .allow-ids) (a .input .now) (a .from) (l .i) (l .inv) (omega arith) (sym (told (c .before)) ∙ c .if1 .left)
 
 returns-2 : tie.Need-returns-2 Inv-loop μ-loop
 returns-2 c =
@@ -67,7 +67,7 @@ returns-2 c =
     let a = c .before .before .before .before .before .args in
     let e : l .i ≡ length (a .input .now) = omega (arith, l .inv .within) in
     record {
-      passed = subst (PassedTo (tableOf (a .entries .now) (a .parts .now)) (a .allow-ids) (a .input .now) (a .from)) e (l .inv);
+      passed = subst (PassedTo (tableOf (a .entries .now) (a .parts .now)) (a .strict) (a .allow-ids) (a .input .now) (a .from)) e (l .inv);
       there = λ h. absurd (omega (arith, h));
     }
 

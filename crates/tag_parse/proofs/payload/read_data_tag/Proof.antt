@@ -20,8 +20,8 @@ integer-data-requires c κs = search needs
 enum-told-3 : tie.Need-enum-told-3
 enum-told-3 c = search needs
 
-text-value-requires : tie.Need-text-value-requires
-text-value-requires c κs = search needs
+text-of-requires : tie.Need-text-of-requires
+text-of-requires c κs = search needs
 
 data-of-requires : tie.Need-data-of-requires
 data-of-requires c κs = search needs
@@ -54,7 +54,7 @@ returns-2 c = rw (c .before .enum-told2 .given .1) (c .integer-data .ensures)
 
 returns-3 : tie.Need-returns-3
 unfolding readData
-returns-3 c = rw (c .before .before .enum-told3 .given .1) (c .data-of .ensures ∙ ap dataOf (c .before .text-value .ensures))
+returns-3 c = rw (c .before .before .enum-told3 .given .1) (c .data-of .ensures ∙ ap dataOf (c .before .text-of .ensures))
 
 returns-4 : tie.Need-returns-4
 unfolding readData
@@ -81,7 +81,7 @@ read-data-tag-spec =
     enum-told-2
     integer-data-requires
     enum-told-3
-    text-value-requires
+    text-of-requires
     data-of-requires
     enum-told-4
     enum-told-5

@@ -11,13 +11,13 @@ enum-told : tie.Need-enum-told
 enum-told c = search needs
 
 unsigned-of-requires : tie.Need-unsigned-of-requires
-unsigned-of-requires c κs = c .before .before .before .pre (rw (c .enum-told .given .1))
+unsigned-of-requires c κs = c .before .before .before .pre .0 (rw (c .enum-told .given .1))
 
 enum-told-2 : tie.Need-enum-told-2
 enum-told-2 c = search needs
 
 integer-of-requires : tie.Need-integer-of-requires
-integer-of-requires c κs = c .before .before .before .pre (rw (c .enum-told2 .given .1))
+integer-of-requires c κs = c .before .before .before .pre .0 (rw (c .enum-told2 .given .1))
 
 enum-told-3 : tie.Need-enum-told-3
 enum-told-3 c = search needs

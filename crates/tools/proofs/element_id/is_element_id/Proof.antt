@@ -1,75 +1,16 @@
--- `tools::element_id::is_element_id`. The invariant: it is an ID of no length passed, so the least from here on is the
--- least of all. Assumes nothing.
-use Prim.Native.Nat.{ℕ, _+_, _-_, _≤_, _<_}
-use mathlib.Core.Path.{_≡_, refl, sym, ap, _∙_}
-use mathlib.Core.Bool.{Bool, true, false}
-use native.Mathlib.Omega.{arith}
-use borrow.Author.Tests.{le-leb, lt-leb}
-use Rattle.tools.specs.Vint.{leastFrom}
-use Rattle.tools.specs.ElementId.{isIdOf, elementIdLength, isElementId}
-use Rattle.tools.proofs.Least.{least-here, least-next}
+-- `tools::element_id::is_element_id`. Assumes nothing.
+use mathlib.Core.Path.{_≡_, refl, ap}
+use lib.Dec.{leb}
+use Rattle.tools.specs.ElementId.{isElementId}
 use Rattle.tools.proofs.element_id.is_element_id.Statement.{statement}
 use Rattle.tools.proofs.element_id.is_element_id.Tie as tie
 
-abbrev test : ℕ → ℕ → Bool
-test x L = isIdOf L x
+element-id-length-requires : tie.Need-element-id-length-requires
+element-id-length-requires c κs = tt
 
-abbrev Inv-loop : tie.InvT-loop
-Inv-loop id length₀ length = (1 ≤ length) × (length ≤ 9) × (leastFrom (test id) (9 - length) length ≡ elementIdLength id)
-
-abbrev μ-loop : tie.MeasureT-loop
-μ-loop id length₀ length = 9 - length
-
-loop-holds : tie.Need-loop-holds Inv-loop μ-loop
-loop-holds c = (omega arith, omega arith, refl)
-
-is-id-of-requires : tie.Need-is-id-of-requires Inv-loop μ-loop
-is-id-of-requires c κs = (omega arith, omega arith)
-
-returns : tie.Need-returns Inv-loop μ-loop
+returns : tie.Need-returns
 unfolding isElementId
-returns c =
-    let l = c .before .before .before .loop in
-    let a = c .before .before .before .before .args in
-    let here : isIdOf (l .length) (a .id) ≡ true = sym (c .before .is-id-of .ensures) ∙ c .if1 .taken in
-    let e : l .length ≡ elementIdLength (a .id) = sym (least-here (test (a .id)) (9 - l .length) (l .length) (omega arith) here) ∙ l .inv .2 in
-    rw (← e) (sym (le-leb (l .length) 8 (omega arith)))
-
-add-length : tie.Need-add-length Inv-loop μ-loop
-add-length c = omega arith
-
-loop-less : tie.Need-loop-less Inv-loop μ-loop
-loop-less c = omega arith
-
-loop-again : tie.Need-loop-again Inv-loop μ-loop
-loop-again c =
-    let l = c .before .before .before .loop in
-    let a = c .before .before .before .before .args in
-    let none : isIdOf (l .length) (a .id) ≡ false = sym (c .before .is-id-of .ensures) ∙ c .if1 .left in
-    let e : 9 - (l .length + 1) ≡ 9 - l .length - 1 = omega arith in (
-      omega arith,
-      omega arith,
-      rw e (sym (least-next (test (a .id)) (9 - l .length) (l .length) (omega arith) none) ∙ l .inv .2),
-    )
-
-returns-2 : tie.Need-returns-2 Inv-loop μ-loop
-unfolding isElementId leastFrom
-returns-2 c =
-    let l = c .before .loop in
-    let e : l .length ≡ 9 = omega arith in
-    let w : 9 ≡ elementIdLength (c .before .before .args .id) = rw e at (l .inv .2) in
-    rw (← w) (refl {A = Bool} {a = false})
+returns c = rw (c .element-id-length .ensures) refl
 
 pub is-element-id-spec : {M : Type 1} → statement M
-is-element-id-spec =
-    tie.close
-    (tie.spec
-    Inv-loop
-    μ-loop
-    loop-holds
-    is-id-of-requires
-    returns
-    add-length
-    loop-less
-    loop-again
-    returns-2)
+is-element-id-spec = tie.close (tie.spec element-id-length-requires returns)

@@ -16,7 +16,7 @@ use Rattle.whole.proofs.check.refused_as.Statement.{statement}
 use Rattle.whole.proofs.check.refused_as.Tie as tie
 
 abbrev others : List ℕ
-others = 0 ∷ 1 ∷ 2 ∷ 3 ∷ 4 ∷ 5 ∷ 6 ∷ 7 ∷ 8 ∷ 9 ∷ 10 ∷ 11 ∷ 13 ∷ []
+others = 0 ∷ 1 ∷ 2 ∷ 3 ∷ 4 ∷ 5 ∷ 6 ∷ 7 ∷ 8 ∷ 9 ∷ 10 ∷ 11 ∷ 13 ∷ 14 ∷ 15 ∷ []
 
 other : (e : DecodeError) (p : ℕ) (d : TagDecoder) → OneOf others (tagOf the-type e) → Refused (errorNumber e) p ≡ refusedAs e p d
 other error.TableShape p d h = refl
@@ -33,6 +33,8 @@ other error.FromUtf8Error p d h = refl
 other error.ReadF64Mismatch p d h = refl
 other (error.UnexpectedEOF cut) p d h = absurd (miss others 12 tt h)
 other error.NotAMaster p d h = refl
+other error.InvalidIdForm p d h = refl
+other error.UnknownSizePastEnd p d h = refl
 
 enum-known-error : tie.Need-enum-known-error
 enum-known-error c = search needs
