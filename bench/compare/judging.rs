@@ -3,4 +3,5 @@
 pub mod calls;
 mod check;
 pub mod listed;
+mod strict;
 pub mod table;

@@ -1,7 +1,7 @@
 //! The listed differences: where the Rust's answer is not the one that ours must give.
 
 use crate::table::Table;
-use oracle::fields::{bytes, hex};
+use oracle::fields::{bytes, hex, list, word};
 
 pub const SIGNED_VINT_PANIC: &str = "signed vint of 8 bytes, not negative: the Rust panics";
 pub const NAN_BITS: &str = "NaN with other bits";
@@ -14,9 +14,16 @@ pub const LENGTH: &str = "12, position and length: the Rust has no such limit";
 pub const DEPTH: &str = "19, a 33rd master: the Rust has no such limit";
 pub const HANGS: &str = "recovery past a header that fails: the Rust never returns";
 
+pub const STRICT: &str = "sended and spath: the Rust has no strict reading, document 02 decides";
+
 pub enum Expected {
     Same,
-    Listed { kind: &'static str, ours: String },
+    /// Nothing: the session was read strictly.
+    Anything,
+    Listed {
+        kind: &'static str,
+        ours: String,
+    },
 }
 
 /// Goes through a script call by call.
@@ -70,7 +77,16 @@ impl Listing {
                 nan(payload, rust.strip_prefix("8 ")?.get(..16)?, |bits| written(bits, lent))
             }
             (["check"], "NOCHECK") => Some(listed(CHECK, self.check())),
-            (["ended" | "path", ..], "NOTABLE") => Some(listed(TABLE_SHAPE, "X 10".to_string())),
+            (["sended", master, id], "NOSTRICT") => {
+                let is_ended = self.table()?.is_ended_strictly(word(master)?, word(id)?);
+                Some(listed(STRICT, u8::from(is_ended).to_string()))
+            }
+            (["spath", id, stack], "NOSTRICT") => {
+                let does_fit = self.table()?.fits_strictly(word(id)?, &list(stack, open_master)?);
+                Some(listed(STRICT, u8::from(does_fit).to_string()))
+            }
+            (_, _) if rust.starts_with("NOSTRICT ") => Some(Expected::Anything),
+            (["ended" | "path" | "sended" | "spath", ..], "NOTABLE") => Some(listed(TABLE_SHAPE, "X 10".to_string())),
             (["decode" | "eof" | "recover", _], "NOTABLE") => {
                 Some(listed(TABLE_SHAPE, format!("X 10 {}", self.position)))
             }
@@ -82,6 +98,12 @@ impl Listing {
     fn check(&self) -> String {
         self.table.as_ref().map_or_else(|| "X 10".to_string(), Table::check)
     }
+}
+
+/// The ID of an open master, and whether its size is Unknown.
+fn open_master(item: &str) -> Option<(u64, bool)> {
+    let (id, size) = item.split_once(':')?;
+    Some((word(id)?, size == "u"))
 }
 
 fn listed(kind: &'static str, ours: String) -> Expected {

@@ -3,6 +3,9 @@
 //! with --kinds also how often each kind of call had each kind of answer. The result is 1 if a difference is not a
 //! listed one.
 
+mod apart;
+
+use apart::Own;
 use judging::calls::{answers, calls};
 use judging::listed::{Expected, Listing};
 use std::collections::BTreeMap;
@@ -19,6 +22,8 @@ struct Counts {
     equal: u64,
     listed: BTreeMap<&'static str, u64>,
     unlisted: BTreeMap<String, u64>,
+    /// read strictly, so that the Rust has no answer
+    apart: u64,
     /// by the call's name, then by the kind of our answer
     kinds: BTreeMap<String, BTreeMap<String, u64>>,
 }
@@ -47,12 +52,17 @@ fn main() -> io::Result<ExitCode> {
 fn compare(folder: &Path, name: &str) -> io::Result<Counts> {
     let mut counts = Counts::default();
     let mut listing = Listing::new();
+    let mut own = Own::default();
     let mut ours = answers(folder, name, "ours")?;
     let mut rust = answers(folder, name, "rust")?;
     for call in calls(folder, name)? {
         let rust = rust.next().transpose()?.unwrap_or_else(|| "(no answer)".to_string());
         let ours = ours.next().transpose()?.unwrap_or_else(|| "(no answer)".to_string());
-        counts.judge(listing.expected(&call, &rust), &call, &rust, &ours);
+        let is_sound = own.follow(&call, &ours);
+        match listing.expected(&call, &rust) {
+            Expected::Anything if is_sound => counts.apart(&call, &ours),
+            expected => counts.judge(expected, &call, &rust, &ours),
+        }
     }
     for left in ours.chain(rust) {
         counts.differ("(no call)", "", &left?);
@@ -61,14 +71,23 @@ fn compare(folder: &Path, name: &str) -> io::Result<Counts> {
 }
 
 impl Counts {
-    fn judge(&mut self, expected: Expected, call: &str, rust: &str, ours: &str) {
+    fn count(&mut self, call: &str, ours: &str) {
         self.calls += 1;
         *self.kinds.entry(name(call)).or_default().entry(kind(ours)).or_default() += 1;
+    }
+
+    fn apart(&mut self, call: &str, ours: &str) {
+        self.count(call, ours);
+        self.apart += 1;
+    }
+
+    fn judge(&mut self, expected: Expected, call: &str, rust: &str, ours: &str) {
+        self.count(call, ours);
         match expected {
             Expected::Same if ours == rust => self.equal += 1,
             Expected::Listed { kind, ours: wanted } if ours == wanted => *self.listed.entry(kind).or_default() += 1,
             Expected::Listed { ours: wanted, .. } => self.differ(call, &format!("{rust} (ours to be: {wanted})"), ours),
-            Expected::Same => self.differ(call, rust, ours),
+            Expected::Same | Expected::Anything => self.differ(call, rust, ours),
         }
     }
 
@@ -85,6 +104,7 @@ impl Counts {
     fn add(&mut self, other: Counts) {
         self.calls += other.calls;
         self.equal += other.equal;
+        self.apart += other.apart;
         for (kind, count) in other.listed {
             *self.listed.entry(kind).or_default() += count;
         }
@@ -115,6 +135,12 @@ impl Counts {
             "{name}: {} calls, {} equal, {listed} listed differences, {unlisted} others",
             self.calls, self.equal
         );
+        if self.apart > 0 {
+            println!(
+                "  apart  {:>8}  read strictly: the Rust has no such reading",
+                self.apart
+            );
+        }
         for (kind, count) in &self.listed {
             println!("  listed {count:>8}  {kind}");
         }

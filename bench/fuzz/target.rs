@@ -172,11 +172,12 @@ impl Session {
         let mut ours = text.lines();
         let mut listing = Listing::new();
         for (call, rust) in self.calls.iter().zip(&self.answers) {
+            let ours = ours.next().unwrap_or("(no answer)");
             let wanted = match listing.expected(call, rust) {
                 Expected::Same => rust.clone(),
                 Expected::Listed { ours, .. } => ours,
+                Expected::Anything => continue,
             };
-            let ours = ours.next().unwrap_or("(no answer)");
             if ours != wanted {
                 self.differ(call, rust, &wanted, ours);
             }

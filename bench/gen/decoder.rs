@@ -15,7 +15,8 @@ pub fn generate(folder: &Path, seed: u64) -> io::Result<()> {
     short::generate(folder)?;
     payloads::generate(folder, &mut prng)?;
     sessions::generate(folder, &mut prng)?;
-    records::generate(folder, &mut prng)
+    records::generate(folder, &mut prng)?;
+    sessions::strict(folder, &mut prng)
 }
 
 const LINES: &[&str] = &[
@@ -52,7 +53,7 @@ const LINES: &[&str] = &[
     "recover -",
     "set",
     "set ",
-    "set x=1",
+    "set y=1",
     "set a",
     "set a=",
     "set =1",

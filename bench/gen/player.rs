@@ -47,7 +47,7 @@ impl Player {
         let answer = self.call(&format!("{name} {}", hex(unread)))?;
         let mut words = answer
             .split(' ')
-            .skip_while(|word| matches!(*word, "PANIC" | "HANGS" | "LIMIT"));
+            .skip_while(|word| matches!(*word, "NOSTRICT" | "PANIC" | "HANGS" | "LIMIT"));
         let outcome = match words.next() {
             Some("N") => Outcome::NeedMore,
             Some("F") => Outcome::Finished,

@@ -14,7 +14,38 @@ use std::path::Path;
 const RANDOM_TABLES: usize = 2_000;
 const STREAMS_OF_A_TABLE: usize = 16;
 const DEEP_SESSIONS: usize = 900;
+const STRICT_TABLES: usize = 400;
 const MOST_CALLS: usize = 120;
+
+/// Lines that are just or just not the setting.
+const STRICT_LINES: &[&str] = &[
+    "new",
+    "strict",
+    "strict 2",
+    "strict 01",
+    "strict -",
+    "strict 1 ",
+    "strict  1",
+    "strict x",
+    "Strict 1",
+    "st",
+    "strict 1",
+    "st",
+    "strict 0",
+    "st",
+    "set x=1",
+    "st",
+    "set x=",
+    "set x=2",
+    "set x=00",
+    "set x=0 x=0",
+    "st",
+    "set p=3 x=0",
+    "st",
+    "set x=1 p=4",
+    "new",
+    "st",
+];
 
 pub fn generate(folder: &Path, prng: &mut Prng) -> io::Result<()> {
     random(folder, prng)?;
@@ -24,22 +55,37 @@ pub fn generate(folder: &Path, prng: &mut Prng) -> io::Result<()> {
 fn random(folder: &Path, prng: &mut Prng) -> io::Result<()> {
     let mut player = Player::create(folder, "decoder-random")?;
     for turn in 0..RANDOM_TABLES {
-        let table = match turn % 8 {
-            0 | 1 => of_document(),
-            2..=4 => well_formed(prng),
-            5 | 6 => ill_formed(prng),
-            _ if prng.below(8) == 0 => largest(prng),
-            _ => ill_formed(prng),
-        };
-        player.call(&table.call(prng))?;
-        for _ in 0..STREAMS_OF_A_TABLE {
-            session(&mut player, prng, &table)?;
-        }
+        on_a_table(&mut player, prng, turn, &["new"])?;
     }
     player.finish()
 }
 
-fn session(player: &mut Player, prng: &mut Prng, table: &Table) -> io::Result<()> {
+/// Sessions that are read strictly. What a call lends is what the ported reading left.
+pub fn strict(folder: &Path, prng: &mut Prng) -> io::Result<()> {
+    let mut player = Player::create(folder, "decoder-strict")?;
+    player.calls(STRICT_LINES)?;
+    for turn in 0..STRICT_TABLES {
+        on_a_table(&mut player, prng, turn, &["new", "strict 1"])?;
+    }
+    player.finish()
+}
+
+fn on_a_table(player: &mut Player, prng: &mut Prng, turn: usize, begin: &[&str]) -> io::Result<()> {
+    let table = match turn % 8 {
+        0 | 1 => of_document(),
+        2..=4 => well_formed(prng),
+        5 | 6 => ill_formed(prng),
+        _ if prng.below(8) == 0 => largest(prng),
+        _ => ill_formed(prng),
+    };
+    player.call(&table.call(prng))?;
+    for _ in 0..STREAMS_OF_A_TABLE {
+        session(player, prng, &table, begin)?;
+    }
+    Ok(())
+}
+
+fn session(player: &mut Player, prng: &mut Prng, table: &Table, begin: &[&str]) -> io::Result<()> {
     let faults = Faults {
         one_in: prng.pick(&[6, 20, 1_000_000]),
     };
@@ -49,7 +95,7 @@ fn session(player: &mut Player, prng: &mut Prng, table: &Table) -> io::Result<()
     }
     stream.truncate(600);
     let beside = prng.beside();
-    player.call("new")?;
+    player.calls(begin)?;
     if prng.below(3) == 0 {
         switch(player, prng)?;
     }

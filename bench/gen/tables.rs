@@ -13,6 +13,7 @@ const WELL_FORMED: usize = 1_200;
 const ILL_FORMED: usize = 2_400;
 const LARGEST: usize = 60;
 const AT_A_LIMIT: usize = 4_000;
+const STRICT: usize = 600;
 const ENDED_CALLS: usize = 16;
 const PATH_CALLS: usize = 24;
 /// As many words as a line can write beside the other list's `-`.
@@ -111,7 +112,26 @@ pub fn generate(folder: &Path, seed: u64) -> io::Result<()> {
     }
     script.finish()?;
     shapes(folder, &mut prng)?;
-    walks(folder, &mut prng)
+    let mut script = Script::create(folder, "table-walks")?;
+    walks(&mut script, &mut prng, "path")?;
+    script.finish()?;
+    strict(folder, &mut prng)
+}
+
+/// What is asked strictly, of good tables, of tables with faults and of bad shapes.
+fn strict(folder: &Path, prng: &mut Prng) -> io::Result<()> {
+    let mut script = Script::create(folder, "table-strict")?;
+    for _ in 0..STRICT {
+        let tables = [of_document(), well_formed(prng), ill_formed(prng), largest(prng)];
+        for table in tables {
+            script.line(table.call(prng))?;
+            asked(&mut script, prng, &table, ["sended", "spath"])?;
+        }
+        script.line(at_a_limit_of_shape(prng).call())?;
+        asked(&mut script, prng, &of_document(), ["sended", "spath"])?;
+    }
+    walks(&mut script, prng, "spath")?;
+    script.finish()
 }
 
 fn lines(folder: &Path) -> io::Result<()> {
@@ -134,13 +154,18 @@ fn lines(folder: &Path) -> io::Result<()> {
 fn about(script: &mut Script, prng: &mut Prng, table: &Table) -> io::Result<()> {
     script.line(table.call(prng))?;
     script.line("check")?;
+    asked(script, prng, table, ["ended", "path"])
+}
+
+/// Who ends whom and the place, by the calls of these names.
+fn asked(script: &mut Script, prng: &mut Prng, table: &Table, [ended, path]: [&str; 2]) -> io::Result<()> {
     for _ in 0..ENDED_CALLS {
-        script.line(format!("ended {:X} {:X}", table.some_id(prng), table.some_id(prng)))?;
+        script.line(format!("{ended} {:X} {:X}", table.some_id(prng), table.some_id(prng)))?;
     }
     for _ in 0..PATH_CALLS {
         let id = table.some_id(prng);
         let stack = stack_for(prng, table, id);
-        script.line(format!("path {id:X} {}", stack_field(&stack)))?;
+        script.line(format!("{path} {id:X} {}", stack_field(&stack)))?;
     }
     Ok(())
 }
@@ -166,8 +191,7 @@ fn shapes(folder: &Path, prng: &mut Prng) -> io::Result<()> {
 }
 
 /// Every path of up to three telling parts against every stack of up to four of two masters.
-fn walks(folder: &Path, prng: &mut Prng) -> io::Result<()> {
-    let mut script = Script::create(folder, "table-walks")?;
+fn walks(script: &mut Script, prng: &mut Prng, call: &str) -> io::Result<()> {
     let stacks = lists(&[0xA1, 0xA2], 4);
     for paths in lists(&TELLING_PARTS, 3).chunks(MOST_ENTRIES - 2) {
         let ids = 0x4000..0x4000 + paths.len() as u64;
@@ -189,11 +213,11 @@ fn walks(folder: &Path, prng: &mut Prng) -> io::Result<()> {
             script.lines(
                 stacks
                     .iter()
-                    .map(|stack| format!("path {id:X} {}", stack_field(&known(stack)))),
+                    .map(|stack| format!("{call} {id:X} {}", stack_field(&known(stack)))),
             )?;
         }
     }
-    script.finish()
+    Ok(())
 }
 
 /// Every list of at most so many of the items, the shorter ones first; the last place changes fastest.

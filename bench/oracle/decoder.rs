@@ -28,6 +28,9 @@ type Answered = Result<Option<PositionedTag<Tag>>, TagIteratorError>;
 pub struct Session {
     decoder: TagDecoder<Tag>,
     counts: Counts,
+    is_strict: bool,
+    /// whether bytes were lent strictly, so that the Rust's record is no longer the session's
+    is_apart: bool,
 }
 
 impl Default for Session {
@@ -35,6 +38,8 @@ impl Default for Session {
         Session {
             decoder: TagDecoder::new(&[]),
             counts: Counts::default(),
+            is_strict: false,
+            is_apart: false,
         }
     }
 }
@@ -47,18 +52,42 @@ impl Session {
             ["allow", sum] => self.decoder.allow_errors(&allowances(allowed(sum)?)),
             ["max", "-"] => self.decoder.set_max_allowable_tag_size(None),
             ["max", size] => self.decoder.set_max_allowable_tag_size(Some(number(size)?)),
-            ["set", settings @ ..] if !settings.is_empty() => {
-                let (record, counts) = set(self.record(), self.counts.clone(), settings)?;
-                self.decoder = record.into_decoder();
-                self.counts = counts;
+            ["strict", on] => self.is_strict = flag(on)?,
+            ["set", settings @ ..] if !settings.is_empty() => return self.set(settings),
+            ["st"] => return Some(self.beside(state(&self.record(), &self.counts, self.is_strict))),
+            ["decode", input] => {
+                return Some(self.lend(&bytes(input)?, |it, input| it.step(input, TagDecoder::decode)))
             }
-            ["st"] => return Some(state(&self.record(), &self.counts)),
-            ["decode", input] => return Some(self.step(&bytes(input)?, TagDecoder::decode)),
-            ["eof", input] => return Some(self.step(&bytes(input)?, TagDecoder::decode_eof)),
-            ["recover", input] => return Some(self.recover(&bytes(input)?)),
+            ["eof", input] => {
+                return Some(self.lend(&bytes(input)?, |it, input| it.step(input, TagDecoder::decode_eof)))
+            }
+            ["recover", input] => return Some(self.lend(&bytes(input)?, Session::recover)),
             _ => return None,
         }
         Some("ok".to_string())
+    }
+
+    fn set(&mut self, settings: &[&str]) -> Option<String> {
+        let (record, counts, is_strict) = set(self.record(), self.counts.clone(), self.is_strict, settings)?;
+        self.decoder = record.into_decoder();
+        self.counts = counts;
+        self.is_strict = is_strict;
+        Some(self.beside("ok".to_string()))
+    }
+
+    fn lend(&mut self, input: &[u8], call: impl Fn(&mut Session, &[u8]) -> String) -> String {
+        self.is_apart |= self.is_strict;
+        let answer = call(self, input);
+        self.beside(answer)
+    }
+
+    /// The Rust has no strict reading: once bytes are lent strictly, its answers are marked until the next `new`.
+    fn beside(&self, answer: String) -> String {
+        if self.is_apart {
+            format!("NOSTRICT {answer}")
+        } else {
+            answer
+        }
     }
 
     fn record(&self) -> Record<Tag> {
@@ -360,9 +389,9 @@ fn number(field: &str) -> Option<usize> {
     unsigned(field).map(|number| number as usize)
 }
 
-fn state(record: &Record<Tag>, counts: &Counts) -> String {
+fn state(record: &Record<Tag>, counts: &Counts, is_strict: bool) -> String {
     format!(
-        "st a={} m={} p={} s={} f={} O={} W={} C={} V={}",
+        "st a={} m={} p={} s={} f={} O={} W={} C={} V={} x={}",
         record.allowed,
         or_dash(record.greatest.map(|size| size.to_string())),
         record.position,
@@ -372,6 +401,7 @@ fn state(record: &Record<Tag>, counts: &Counts) -> String {
         joined(record.waiting.iter().map(waiting_text)),
         joined(counts.open.iter().map(u64::to_string)),
         joined(counts.waiting.iter().map(u64::to_string)),
+        u8::from(is_strict),
     )
 }
 
@@ -395,7 +425,12 @@ fn waiting_text(waiting: &PositionedTag<Tag>) -> String {
     format!("{id:X}:{}", waiting.offset)
 }
 
-fn set(mut record: Record<Tag>, mut counts: Counts, settings: &[&str]) -> Option<(Record<Tag>, Counts)> {
+fn set(
+    mut record: Record<Tag>,
+    mut counts: Counts,
+    mut is_strict: bool,
+    settings: &[&str],
+) -> Option<(Record<Tag>, Counts, bool)> {
     let mut keys: Vec<&str> = Vec::new();
     for setting in settings {
         let (key, value) = setting.split_once('=')?;
@@ -419,10 +454,11 @@ fn set(mut record: Record<Tag>, mut counts: Counts, settings: &[&str]) -> Option
             }
             "C" => counts.open = counts_of(value, record.open.len())?,
             "V" => counts.waiting = counts_of(value, record.waiting.len())?,
+            "x" => is_strict = flag(value)?,
             _ => return None,
         }
     }
-    Some((record, counts))
+    Some((record, counts, is_strict))
 }
 
 /// Exactly as many counts as there are masters or Ends.

@@ -36,6 +36,8 @@ pub fn answer(fields: &[&str]) -> Option<String> {
         ["check"] => Some("NOCHECK".to_string()),
         ["ended", master, id] => Some(ended(word(master)?, word(id)?)),
         ["path", id, stack] => Some(fits(word(id)?, &stacked(stack)?)),
+        ["sended", master, id] => word(master).and(word(id)).map(|_| not_strict()),
+        ["spath", id, stack] => word(id).and(stacked(stack)).map(|_| not_strict()),
         _ => None,
     }
 }
@@ -112,6 +114,11 @@ fn yes_or_no(call: impl Fn() -> bool) -> String {
         return "NOTABLE".to_string();
     }
     u8::from(call()).to_string()
+}
+
+/// The Rust has no strict reading.
+fn not_strict() -> String {
+    if is_lent() { "NOSTRICT" } else { "NOTABLE" }.to_string()
 }
 
 fn stacked(field: &str) -> Option<Vec<(u64, EBMLSize)>> {
