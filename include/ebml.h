@@ -217,6 +217,9 @@ static inline const char *ebml_refusal_text(int number)
     case 35: return "two paths in the table disagree about a master's parents";
     case 80: return "strictly: an ID that no file may hold, or longer than 4 bytes";
     case 81: return "strictly: an element without a size whose header reaches past the end of the master around it";
+    case 90: return "the stored block does not have 2,560 bytes";
+    case 91: return "the stored block has a layout that is not known";
+    case 92: return "the stored block is damaged: a yes-or-no word over 1, or an unused byte set";
     default: return "no refusal has this number";
     }
 }

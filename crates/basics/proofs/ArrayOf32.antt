@@ -7,12 +7,23 @@ use native.Mathlib.Decide.{decLt}
 use native.Mathlib.Numerals.{add-one}
 use native.Mathlib.Omega.{arith}
 use lib.ListN.{length, getD, take, drop, set, replicate, length-append, length-take, length-drop, length-map, length-reverse, length-replicate, getD-replicate, replicate-append-replicate, drop-of-length-le, List·getD-append, List·getD-eq-default}
-use lib.Seq.{length-take-le, take-all, take-suc, drop-cons, take-at, drop-at, set-at, take-append-le, getD-at, getD-append-add, getD-take, getD-drop, drop-append-le}
+use lib.Seq.{length-take-le, take-all, take-nil, take-suc, drop-cons, take-at, drop-at, set-at, take-append-le, getD-at, getD-append-add, getD-take, getD-drop, drop-append-le}
 use Rattle.basics.specs.Lists.{arrayPlaces, filled}
 
 -- what the type says of an array of structs, for its list
 pub length-of-map : (X Y : Type 0) (f : X → Y) (l : List X) (n : ℕ) → length (map f l) ≡ n → length l ≡ n
 length-of-map X Y f l n h = sym (length-map l f) ∙ h
+
+-- an array whose every element is mapped, an empty place to an empty place
+module _ {A : Type 0} (f : A → A) (none : A) (stays : f none ≡ none) where
+  map-empty : (n : ℕ) → map f (replicate n none) ≡ replicate n none
+  map-empty zero = refl
+  map-empty (suc n) = rw (stays, map-empty n)
+
+  pub map-filled : (l : List A) → map f (filled none l) ≡ filled none (map f l)
+  map-filled l =
+      map-append f l (replicate (arrayPlaces - length l) none)
+      ∙ ap (λ (k : List A). map f l ++ k) (map-empty (arrayPlaces - length l) ∙ ap (λ (n : ℕ). replicate (arrayPlaces - n) none) (sym (length-map l f)))
 
 module _ {A : Type 0} (none : A) where
   -- ---- a list at the front, the other places empty
@@ -98,6 +109,12 @@ module _ {A : Type 0} (none : A) where
   filled-shorter l i j e h k = rw (e, add-one, take-suc l j none h) (filled-less (take j l) j (getD l j none) (length-take-le j l (omega arith)) (omega arith))
 
 -- ---- the first n of a list
+
+-- the front of the rest is the rest of the front
+pub take-rest : {A : Type 0} (n : ℕ) (l : List A) → take (n - 1) (drop 1 l) ≡ drop 1 (take n l)
+take-rest zero l = refl
+take-rest (suc n) [] = take-nil (suc n - 1)
+take-rest (suc n) (a ∷ l) = let e : suc n - 1 ≡ n = omega arith in rw e
 
 -- the first of them gone, whatever comes at the end
 pub take-shift : {A : Type 0} (l : List A) (n : ℕ) (z : A) → n ≤ length l → take (n - 1) (drop 1 l ++ (z ∷ [])) ≡ drop 1 (take n l)

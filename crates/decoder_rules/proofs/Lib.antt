@@ -1,6 +1,7 @@
 pub mod GoodState
 pub mod MoveEffects
 pub mod EmptyPlacesZero
+pub mod AbsentZero
 pub mod Counting
 pub mod MovesKeepGoodState
 pub mod MoveLaws

@@ -61,7 +61,7 @@ use Rattle.guarantees.proofs.CountsLookedUp.{LookedUp, told-looked, imp
 -- ---- a call: l are the counts before its event
 
 -- an End carries the first of them
-abbrev EndCounts : Answer → List ℕ → Type 0
+abbrev pub EndCounts : Answer → List ℕ → Type 0
 EndCounts (answer.Event (event.Start x o)) l = Unit {0}
 EndCounts (answer.Event (event.End end)) l = end .count ≡ getD l 0 0
 EndCounts (answer.Event (event.Data x o v)) l = Unit {0}
@@ -165,21 +165,24 @@ module _ (es ps : List ℕ) (shape : goodShape es ps ≡ true) (passed : PassedT
 -- ---- any calls
 
 -- an End among what a call tells
-abbrev EndCountsIn : Response → List ℕ → Type 0
+abbrev pub EndCountsIn : Response → List ℕ → Type 0
 EndCountsIn (answered a n) l = EndCounts a l
 EndCountsIn (searched a n) l = Unit {0}
 EndCountsIn silent l = Unit {0}
 
-record NextCounts (l : List ℕ) (x : Response) (e : TagDecoder) : Type 0 where
-  told : EndCountsIn x l
-  left : countsIn e ≡ countsBy x l
+-- what a call tells of the counts l before its event, and what the record after it holds
+pub record NextCounts (l : List ℕ) (x : Response) (e : TagDecoder) : Type 0 where
+  pub told : EndCountsIn x l
+  pub left : countsIn e ≡ countsBy x l
 
 limited-counts : (d : TagDecoder) (n : Optional) → countsIn (limitedTo d n) ≡ countsIn d
 unfolding withSettings
 limited-counts d Nothing = refl
 limited-counts d (Number n) = refl
 
-next-counts : (es ps : List ℕ) → checkTable es ps ≡ Passed → (d : TagDecoder) {starts : List Started} {left : List ℕ} {p : ℕ} → Tied (tableOf es ps) d starts left p → Tidy d
+-- a call on any record that is tied to what a caller can tell goes on from the counts that the record holds, whatever
+-- they are
+pub next-counts : (es ps : List ℕ) → checkTable es ps ≡ Passed → (d : TagDecoder) {starts : List Started} {left : List ℕ} {p : ℕ} → Tied (tableOf es ps) d starts left p → Tidy d
     → (c : Call) → Octets (lent c) → NextCounts (withImplied (impliedBy ps (noteOf es ps d c)) (countsIn d)) (responseTo es ps d c) (next es ps d c)
 unfolding impliedBy withSettings
 next-counts es ps checked d k y (decoding s) byte =
@@ -196,7 +199,7 @@ next-counts es ps checked d k y (limit n) byte = record { told = tt; left = limi
 
 module _ (es ps : List ℕ) (checked : checkTable es ps ≡ Passed) where
   -- what a call after any calls tells of the counts, where the record before it holds them
-  told-from : (cs : List Call) (c : Call) → Lent (c ∷ cs) → countsIn (recordAfter es ps cs) ≡ childCounts ps (tableOf es ps) (history es ps cs)
+  pub told-from : (cs : List Call) (c : Call) → Lent (c ∷ cs) → countsIn (recordAfter es ps cs) ≡ childCounts ps (tableOf es ps) (history es ps cs)
       → NextCounts (countsAt es ps cs c) (lastResponse es ps cs c) (recordAfter es ps (c ∷ cs))
   unfolding recordAfter Lent
   told-from cs c l held =

@@ -1,9 +1,9 @@
 -- The empty places of a decoder's record are zero, after any calls on a fresh decoder and with any words for a table:
--- its arrays are its two lists with empty places after them. Each move, each call and each setting keeps it. Assumes
--- nothing.
+-- its arrays are its two lists with empty places after them. So are a size that is not known and a greatest size that
+-- is not set. Each move, each call and each setting keeps it. Assumes nothing.
 use Prim.Native.Nat.{ℕ, suc, _+_, _≤_, _<_}
 use mathlib.Core.Path.{_≡_, refl}
-use mathlib.Core.Bool.{Bool, true}
+use mathlib.Core.Bool.{Bool, true, false, true≢false}
 use mathlib.Core.List.{List, [], _∷_}
 use native.Mathlib.Omega.{arith}
 use lib.ListN.{length}
@@ -31,6 +31,7 @@ use Rattle.decoder_rules.specs.declared.types.Optional.{Optional}
 use Rattle.decoder_rules.specs.declared.types.Optional.the-variants.{Nothing, Number}
 use Rattle.decoder_rules.specs.declared.types.Settings.{Settings}
 use Rattle.decoder_rules.specs.declared.types.TagDecoder.{TagDecoder}
+use Rattle.decoder_rules.proofs.AbsentZero.{AbsentZero, sizeKnownOr0, fresh-absent, master-sized, settings-absent, with-notes-absent, settled-absent, opened-absent, closed-absent, handed-absent, counted-absent, grown-absent}
 use Rattle.decoder_rules.proofs.Counting.{counted-arrays, counted-clean}
 use Rattle.decoder_rules.proofs.EmptyPlacesZero.{Clean, fresh-clean, with-notes-clean, settled-clean, opened-clean, closed-clean, handed-clean, grown-clean}
 use Rattle.decoder_rules.proofs.EndExits as end
@@ -44,26 +45,28 @@ use Rattle.decoder_move.proofs.DecisionApplies.{decide-applies, note-none}
 use Rattle.tag_decoder.proofs.Recovering.{step7-applies}
 use Rattle.guarantees.specs.Calls.{Call, decoding, ending, recovering, allow, strictly, limit, lent, next, recordAfter, Lent}
 
--- a record whose empty places are zero: it has its places, and its counts are at most 32
+-- a record whose empty places and absent values are zero: it has its places, and its counts are at most 32
 pub record Tidy (d : TagDecoder) : Type 0 where
   pub arrays : Arrays d
   pub clean : Clean d
   pub few-open : d .«open_count» ≤ mostOpen
   pub few-waiting : d .«waiting_count» ≤ mostOpen
+  pub absent : AbsentZero d
 
 fresh-tidy : Tidy fresh
-fresh-tidy = record { arrays = fresh-arrays; clean = fresh-clean; few-open = omega arith; few-waiting = omega arith }
+fresh-tidy = record { arrays = fresh-arrays; clean = fresh-clean; few-open = omega arith; few-waiting = omega arith; absent = fresh-absent }
 
 -- ---- the moves
 
 module _ (d : TagDecoder) (k : Tidy d) where
-  settings-tidy : (s : Settings) → Tidy (withSettings d s)
+  settings-tidy : (s : Settings) → (s .«max_given» ≡ false → s .«max_size» ≡ 0) → Tidy (withSettings d s)
   unfolding withSettings
-  settings-tidy s = record {
+  settings-tidy s h = record {
     arrays = record { masters = k .arrays .masters; ends = k .arrays .ends };
     clean = record { masters = k .clean .masters; ends = k .clean .ends };
     few-open = k .few-open;
     few-waiting = k .few-waiting;
+    absent = settings-absent d (k .arrays) (k .few-open) (k .absent) s h;
   }
 
   notes-tidy : (p : ℕ) (s f : Bool) → Tidy (withNotes d p s f)
@@ -73,6 +76,7 @@ module _ (d : TagDecoder) (k : Tidy d) where
     clean = with-notes-clean d (k .arrays) (k .clean) p s f;
     few-open = k .few-open;
     few-waiting = k .few-waiting;
+    absent = with-notes-absent d (k .arrays) (k .few-open) (k .absent) p s f;
   }
 
   settled-tidy : (path : List PathPart) → length path ≤ mostOpen → Tidy (settledTo d path)
@@ -82,15 +86,17 @@ module _ (d : TagDecoder) (k : Tidy d) where
     clean = settled-clean d (k .arrays) (k .clean) path;
     few-open = h;
     few-waiting = k .few-waiting;
+    absent = settled-absent d (k .arrays) (k .few-open) (k .absent) path;
   }
 
-  opened-tidy : (m : OpenTag) → d .«open_count» < mostOpen → Tidy (opened d m)
+  opened-tidy : (m : OpenTag) → d .«open_count» < mostOpen → sizeKnownOr0 m ≡ true → Tidy (opened d m)
   unfolding opened withOpen
-  opened-tidy m h = record {
+  opened-tidy m h s = record {
     arrays = opened-arrays d (k .arrays) m;
     clean = opened-clean d (k .arrays) (k .clean) m h;
     few-open = omega arith;
     few-waiting = k .few-waiting;
+    absent = opened-absent d (k .arrays) (k .few-open) (k .absent) m h s;
   }
 
   closed-tidy : (n : ℕ) → n ≤ d .«open_count» → Tidy (closedTo d n)
@@ -100,6 +106,7 @@ module _ (d : TagDecoder) (k : Tidy d) where
     clean = closed-clean d (k .arrays) (k .clean) n h (k .few-open);
     few-open = omega (arith, k .few-open);
     few-waiting = omega (arith, k .few-open);
+    absent = closed-absent d (k .arrays) (k .few-open) (k .absent) n h;
   }
 
   handed-tidy : Tidy (handedOut d)
@@ -109,6 +116,7 @@ module _ (d : TagDecoder) (k : Tidy d) where
     clean = handed-clean d (k .arrays) (k .clean) (k .few-waiting);
     few-open = k .few-open;
     few-waiting = omega (arith, k .few-waiting);
+    absent = handed-absent d (k .arrays) (k .few-open) (k .absent);
   }
 
   counted-tidy : Tidy (counted d)
@@ -118,6 +126,7 @@ module _ (d : TagDecoder) (k : Tidy d) where
     clean = counted-clean d (k .arrays) (k .clean) (k .few-open);
     few-open = k .few-open;
     few-waiting = k .few-waiting;
+    absent = counted-absent d (k .arrays) (k .few-open) (k .absent);
   }
 
   grown-tidy : (n : ℕ) → Tidy (withSizesGrown d n)
@@ -127,6 +136,7 @@ module _ (d : TagDecoder) (k : Tidy d) where
     clean = grown-clean d (k .arrays) (k .clean) n (k .few-open);
     few-open = k .few-open;
     few-waiting = k .few-waiting;
+    absent = grown-absent d (k .arrays) (k .few-open) (k .absent) n;
   }
 
   -- a note that applies, and an action that does
@@ -143,7 +153,7 @@ move-tidy d k n act.Finish f = k
 move-tidy d k n act.HandOut f = handed-tidy d k
 move-tidy d k n (act.Close i) f = closed-tidy d k i (omega (arith, f .0))
 move-tidy d k n (act.Start x z len) f =
-    opened-tidy _ (counted-tidy _ (notes-tidy d k (d .position + len) (d .settled) (d .finished))) (masterAt x z (d .position) len) (f .0)
+    opened-tidy _ (counted-tidy _ (notes-tidy d k (d .position + len) (d .settled) (d .finished))) (masterAt x z (d .position) len) (f .0) (master-sized x z (d .position) len)
 move-tidy d k n (act.Data x v m) f = counted-tidy _ (notes-tidy d k (d .position + m) (d .settled) (d .finished))
 
 -- ---- decode, and the end of input
@@ -194,15 +204,16 @@ recover-tidy es ps d k s = go (checkRecord10to12 es ps d (length s)) refl
 -- ---- any calls
 
 limited-tidy : (d : TagDecoder) → Tidy d → (n : Optional) → Tidy (limitedTo d n)
-limited-tidy d k Nothing = settings-tidy d k _
-limited-tidy d k (Number n) = settings-tidy d k _
+limited-tidy d k Nothing = settings-tidy d k _ (λ f. refl)
+limited-tidy d k (Number n) = settings-tidy d k _ (λ f. absurd (true≢false f))
 
-next-tidy : (es ps : List ℕ) (d : TagDecoder) → Tidy d → (c : Call) → Octets (lent c) → Tidy (next es ps d c)
+-- any call on such a record leaves one
+pub next-tidy : (es ps : List ℕ) (d : TagDecoder) → Tidy d → (c : Call) → Octets (lent c) → Tidy (next es ps d c)
 next-tidy es ps d k (decoding s) byte = decode-tidy es ps d k s byte
 next-tidy es ps d k (ending s) byte = exit-tidy es ps d k s byte (eof-exits es ps d s)
 next-tidy es ps d k (recovering s) byte = recover-tidy es ps d k s
-next-tidy es ps d k (allow ids hierarchy oversized) byte = settings-tidy d k _
-next-tidy es ps d k (strictly b) byte = settings-tidy d k _
+next-tidy es ps d k (allow ids hierarchy oversized) byte = settings-tidy d k _ (k .absent .greatest)
+next-tidy es ps d k (strictly b) byte = settings-tidy d k _ (k .absent .greatest)
 next-tidy es ps d k (limit n) byte = limited-tidy d k n
 
 -- the record after any calls has its places, counts of at most 32, and zero in each empty place
@@ -214,3 +225,7 @@ tidy-after es ps (c ∷ cs) l = next-tidy es ps (recordAfter es ps cs) (tidy-aft
 -- of any table words, checked or not: the places past the open masters and past the waiting Ends hold zero
 pub clean-after : (es ps : List ℕ) (cs : List Call) → Lent cs → Clean (recordAfter es ps cs)
 clean-after es ps cs l = tidy-after es ps cs l .clean
+
+-- a size that is not known is 0, and so is a greatest size that is not set
+pub absent-after : (es ps : List ℕ) (cs : List Call) → Lent cs → AbsentZero (recordAfter es ps cs)
+absent-after es ps cs l = tidy-after es ps cs l .absent

@@ -183,7 +183,8 @@ module _ (t : List Entry) (d : TagDecoder) (starts : List Started) (left : List 
 -- ---- a master that starts
 
 module _ (x p len : ℕ) where
-  open-good : (z : EBMLSize) → Small z → goodOpen (p + len) (masterAt x z p len) ≡ true
+  -- it is good where its header ends
+  pub open-good : (z : EBMLSize) → Small z → goodOpen (p + len) (masterAt x z p len) ≡ true
   open-good Unknown h = is-good-open (p + len) (masterAt x Unknown p len) (record { start = omega arith; size = λ e. absurd (false≢true e); count = omega arith })
   open-good (Known n) h = is-good-open (p + len) (masterAt x (Known n) p len) (record { start = omega arith; size = λ e. omega arith; count = omega arith })
 

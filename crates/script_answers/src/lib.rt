@@ -2,4 +2,4 @@
 
 pub mod answers;
 pub mod record;
-mod words;
+pub mod words;

@@ -14,11 +14,16 @@ use decoder_rules::types::TagDecoder;
 use script_answers::answers::put_answer;
 use script_answers::answers::put_search;
 use script_answers::record::put_record;
+use script_blocks::restoring::restore_line;
+use script_blocks::storing::answer_store;
 use script_text::answers::bad_line;
 use script_text::answers::put_text;
+use script_text::answers::refused;
 use script_text::reading::read_hex;
 use script_text::words::same;
 use script_text::words::word_end;
+use stored_decoder::errors::error_number;
+use stored_decoder::types::Acceptance;
 use tag_decoder::calls::decode;
 use tag_decoder::calls::decode_eof;
 use tag_decoder::recovery::try_recover;
@@ -55,8 +60,19 @@ fn is_setting(name: &[u8]) -> bool {
     same(name, b"set")
 }
 
+// Whether a line with this name stores the record, or restores it.
+fn is_keeping(name: &[u8]) -> bool {
+    if same(name, b"store") {
+        return true;
+    }
+    same(name, b"restore")
+}
+
 // Whether a line with this name is a call on the decoder.
 pub fn is_call(name: &[u8]) -> bool {
+    if is_keeping(name) {
+        return true;
+    }
     if same(name, b"decode") {
         return true;
     }
@@ -203,6 +219,38 @@ fn change_by(name: &[u8], words: &[u8], d: TagDecoder) -> Change {
     bad(d)
 }
 
+// `restore`: where the block is refused, the decoder stays.
+fn answer_restore(words: &[u8], d: TagDecoder, out: &mut [u8]) -> Answered
+    ensures { λ r. ⌜ r .count ≤ length (now (out .entry)) ⌝ }
+{
+    let restoring = restore_line(words, d);
+    if !restoring.is_call {
+        return no_call(d, out);
+    }
+    let decoder = restoring.decoder;
+    let answer = restoring.answer;
+    match answer {
+        Acceptance::Accepted => done(decoder, out),
+        Acceptance::Refused(e) => Answered {
+            decoder,
+            count: refused(error_number(e), out),
+        },
+    }
+}
+
+// `store` or `restore`.
+fn answer_keeping(name: &[u8], words: &[u8], d: TagDecoder, out: &mut [u8]) -> Answered
+    ensures { λ r. ⌜ r .count ≤ length (now (out .entry)) ⌝ }
+{
+    if same(name, b"store") {
+        return Answered {
+            decoder: d,
+            count: answer_store(words, d, out),
+        };
+    }
+    answer_restore(words, d, out)
+}
+
 // A line of several words.
 fn answer_with_words(
     name: &[u8],
@@ -216,6 +264,9 @@ fn answer_with_words(
 {
     if is_setting(name) {
         return changed(change_by(name, words, d), d, out);
+    }
+    if is_keeping(name) {
+        return answer_keeping(name, words, d, out);
     }
     answer_on_hex(name, words, entries, parts, d, out)
 }

@@ -1,5 +1,5 @@
-// The calls on a decoder: `new`, `allow`, `max`, `strict`, `set` and `st` on its record, `decode`, `eof` and `recover`
-// on bytes.
+// The calls on a decoder: `new`, `allow`, `max`, `strict`, `set`, `st`, `store` and `restore` on its record, `decode`,
+// `eof` and `recover` on bytes.
 
 pub mod calls;
 mod changes;

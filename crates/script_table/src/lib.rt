@@ -3,5 +3,5 @@
 mod asking;
 pub mod calls;
 pub mod lending;
-mod lists;
+pub mod lists;
 mod stack;

@@ -7,7 +7,7 @@ use mathlib.Core.List.{List, [], _∷_, map, reverse}
 use native.Mathlib.Omega.{arith}
 use lib.ListN.{length, take, length-map, List·getD-map}
 use Rattle.basics.specs.Lists.{every}
-use Rattle.basics.proofs.Maps.{map-reversed, take-map}
+use Rattle.basics.proofs.Maps.{map-reversed, take-map, every-mapped}
 use Rattle.table.specs.Table.{Entry}
 use Rattle.table.specs.declared.types.PathPart.{PathPart}
 use Rattle.spec_util.specs.Walk.{noTag, unknownAndEnded, walkFrom, endedTops, leftOpen, placeAlong, shownAs, mastersShown, Shown}
@@ -15,7 +15,7 @@ use Rattle.spec_util.specs.declared.types.OpenTag.{OpenTag}
 use Rattle.spec_util.proofs.Shown.{walk-same}
 
 -- what the words show of a master
-abbrev shown : OpenTag → OpenTag
+abbrev pub shown : OpenTag → OpenTag
 shown m = shownAs (m .id) (m .known)
 
 module _ (strict : Bool) (t : List Entry) (id : ℕ) where
@@ -23,15 +23,14 @@ module _ (strict : Bool) (t : List Entry) (id : ℕ) where
   abbrev stays : OpenTag → Bool
   stays m = not (unknownAndEnded strict t (m .known) (m .id) id)
 
-  tops-shown : (l : List OpenTag) → endedTops strict t id (map shown l) ≡ endedTops strict t id l
+  -- as many tops end
+  pub tops-shown : (l : List OpenTag) → endedTops strict t id (map shown l) ≡ endedTops strict t id l
   unfolding endedTops
   tops-shown [] = refl
   tops-shown (m ∷ l) = ap (λ (n : ℕ). cond (unknownAndEnded strict t (m .known) (m .id) id) (n + 1) 0) (tops-shown l)
 
   none-shown : (l : List OpenTag) → every stays (map shown l) ≡ every stays l
-  unfolding every
-  none-shown [] = refl
-  none-shown (m ∷ l) = ap (λ (b : Bool). stays m && b) (none-shown l)
+  none-shown l = every-mapped shown stays stays (λ m. refl) l
 
   left-open-shown : (l : List OpenTag) → leftOpen strict t id (map shown l) ≡ map shown (leftOpen strict t id l)
   unfolding leftOpen
@@ -46,7 +45,7 @@ module _ (strict : Bool) (t : List Entry) (id : ℕ) where
       (λ i h. ap (λ (m : OpenTag). m .known) (List·getD-map shown l i noTag))
 
 -- the place over what is shown of the masters is the place over the masters
-place-alike : (strict : Bool) (t : List Entry) (path : List PathPart) (id : ℕ) (l : List OpenTag)
+pub place-alike : (strict : Bool) (t : List Entry) (path : List PathPart) (id : ℕ) (l : List OpenTag)
     → placeAlong strict t path id (map shown l) ≡ placeAlong strict t path id l
 unfolding placeAlong
 place-alike true t path id l =

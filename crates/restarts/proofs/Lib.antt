@@ -1,0 +1,12 @@
+pub mod SeenDecision
+pub mod SoundCalls
+pub mod SeenMoves
+pub mod SeenCalls
+pub mod Alike
+pub mod RunsInParts
+pub mod Restored
+pub mod SeenHistory
+pub mod SameTied
+pub mod CountsSince
+pub mod StoredAfter
+pub mod Examples

@@ -1,0 +1,5 @@
+pub mod Comparing
+pub mod Runs
+pub mod Restored
+pub mod Since
+pub mod Restarts

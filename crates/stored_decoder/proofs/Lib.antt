@@ -1,0 +1,13 @@
+pub mod Overwriting
+pub mod InPlaces
+pub mod UsedPlaces
+pub mod PutBytes
+pub mod Written
+pub mod OwnWords
+pub mod WordsBack
+pub mod Checks
+pub mod Restoring
+pub mod Cleaned
+pub mod Unique
+pub mod Examples
+pub mod FromLayout1
