@@ -1,8 +1,9 @@
 //! Usage: speed [SECONDS [PART..]]   or   speed once SIDE INPUT COUNT
 //! Measures our decoder, text check and number routines beside the Rust's, SECONDS on each row (0.4 if not given), and
-//! prints tables. PART is one of streams, growth, recovery, texts, numbers. `once` decodes one input COUNT times on one side, for
-//! a profiler.
+//! prints tables. PART is one of streams, growth, recovery, blocks, texts, numbers. `once` decodes one input COUNT times on one
+//! side, for a profiler.
 
+mod blocks;
 mod clock;
 mod inputs;
 mod numbers;
@@ -34,6 +35,9 @@ fn main() {
     }
     if wanted("recovery") {
         recovery::report(patience);
+    }
+    if wanted("blocks") {
+        blocks::report(patience);
     }
     if wanted("texts") {
         texts::report(patience);

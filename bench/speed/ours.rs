@@ -31,6 +31,8 @@ extern "C" {
         input_len: usize,
     ) -> u64;
     fn bench_is_utf8(text: *const u8, len: usize) -> u64;
+    fn bench_restore(block: *const u8, len: usize) -> u64;
+    fn bench_restore_and_store(block: *const u8, len: usize, out: *mut u8, out_len: usize) -> u64;
     fn ebml_read_vint(buffer: *const u8, len: usize, out: *mut u8, out_len: usize) -> u64;
     fn ebml_read_signed_vint(buffer: *const u8, len: usize, out: *mut u8, out_len: usize) -> u64;
     fn ebml_as_vint(val: u64, out: *mut u8, out_len: usize) -> u64;
@@ -81,6 +83,16 @@ pub fn recover(table: &Words, input: &[u8]) -> usize {
 /// At how many of the bytes a header reads.
 pub fn read_headers(table: &Words, input: &[u8]) -> usize {
     over(bench_read_headers, table, input)
+}
+
+/// The refusal's number, or 0.
+pub fn restore(block: &[u8]) -> u64 {
+    unsafe { bench_restore(block.as_ptr(), block.len()) }
+}
+
+/// The number of the storing's refusal, or 0.
+pub fn restore_and_store(block: &[u8], out: &mut [u8]) -> u64 {
+    unsafe { bench_restore_and_store(block.as_ptr(), block.len(), out.as_mut_ptr(), out.len()) }
 }
 
 pub fn is_utf8(text: &[u8]) -> bool {
