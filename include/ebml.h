@@ -155,6 +155,95 @@ enum ebml_table_fault {
  * good shape. */
 uint64_t ebml_check_table(const uint64_t *entries, size_t entries_len, const uint64_t *parts, size_t parts_len);
 
+/* ---- the writer
+ *
+ * A document is handed over as a list of items, EBML_ITEM_WORDS words each, EBML_MOST_ITEMS at most: its kind
+ * (EBML_START, EBML_END, or for a value its type, EBML_UNSIGNED to EBML_FLOAT); its ID; of a value where its bytes
+ * begin in the buffer of values, and how many there are. ebml_start, ebml_end and ebml_value below fill an item.
+ *  - A number or a float has 8 bytes there, big-endian; ebml_put_u64, ebml_put_i64 and ebml_put_f64 below put them.
+ *    Text and binary are bytes as they are.
+ *  - An element goes only where its path of IDs in the table says; one whose path is the single part (1, 0, 0) goes
+ *    anywhere, other paths nowhere. */
+enum ebml_item_kind { EBML_START = 0, EBML_END = 6 };
+
+#define EBML_ITEM_WORDS 4
+#define EBML_MOST_ITEMS 512
+
+/* The writer's refusals, in their order. */
+enum ebml_write_refusal {
+    EBML_WRITE_TABLE_FAILS = 40,     /* ebml_check_table does not pass the table */
+    EBML_WRITE_TOO_MANY_ITEMS = 41,  /* over EBML_MOST_ITEMS items */
+    EBML_WRITE_UNMATCHED = 42,       /* a Start without its End, or an End that is not the last open Start's */
+    EBML_WRITE_WRONG_ITEM = 43,      /* words left over, a wrong kind, an ID not in the table, a wrong place, another
+                                      * type than the table's, bad text, a number not of 8 bytes, a range outside the
+                                      * values, an element of over 4,000,000,000 bytes of data */
+    EBML_WRITE_OUTPUT_TOO_SHORT = 44 /* `out` is shorter than the document */
+};
+
+/* Writes the document that the items say at the front of `out`, with every size filled in: sizes and numbers as short
+ * as they can be (0 takes no byte), floats in 8 bytes. The document's length goes into `written`, as a value does, and
+ * the result is 8. What is written decodes from a fresh decoder to the same kinds, IDs and values, and then the finish.
+ * The lengths of entries, parts and items count words, the others bytes. No item at all is a document of no byte.
+ * Refusals: 5 (fewer than 8 bytes of `written`; here it comes first), 40 to 44 in this order. */
+uint64_t ebml_write(const uint64_t *entries, size_t entries_len, const uint64_t *parts, size_t parts_len,
+                    const uint64_t *items, size_t items_len, const uint8_t *values, size_t values_len,
+                    uint8_t *out, size_t out_len, uint8_t *written, size_t written_len);
+
+/* ---- in plain C: an item, and the bytes of its value */
+
+/* Fills an item with these four words. */
+static inline void ebml_item(uint64_t *item, uint64_t kind, uint64_t id, uint64_t offset, uint64_t length)
+{
+    item[0] = kind;
+    item[1] = id;
+    item[2] = offset;
+    item[3] = length;
+}
+
+/* Fills an item: the Start of a master. */
+static inline void ebml_start(uint64_t *item, uint64_t id)
+{
+    ebml_item(item, EBML_START, id, 0, 0);
+}
+
+/* Fills an item: the End of a master. */
+static inline void ebml_end(uint64_t *item, uint64_t id)
+{
+    ebml_item(item, EBML_END, id, 0, 0);
+}
+
+/* Fills an item: a value of a type, whose `length` bytes begin at `offset` in the buffer of values. */
+static inline void ebml_value(uint64_t *item, enum ebml_type type, uint64_t id, size_t offset, size_t length)
+{
+    ebml_item(item, (uint64_t)type, id, offset, length);
+}
+
+/* Puts a number into EBML_VALUE bytes, as an item's value has it. */
+static inline void ebml_put_u64(uint8_t *value, uint64_t n)
+{
+    for (size_t i = EBML_VALUE; i > 0; i--) {
+        value[i - 1] = (uint8_t)(n % 256);
+        n /= 256;
+    }
+}
+
+/* The same of a signed number. */
+static inline void ebml_put_i64(uint8_t *value, int64_t n)
+{
+    ebml_put_u64(value, (uint64_t)n);
+}
+
+/* The same of a double, on a machine whose doubles are IEEE 754's. */
+static inline void ebml_put_f64(uint8_t *value, double d)
+{
+    uint64_t bits = 0;
+    const unsigned char *from = (const unsigned char *)&d;
+    unsigned char *to = (unsigned char *)&bits;
+    for (size_t i = 0; i < sizeof d; i++)
+        to[i] = from[i];
+    ebml_put_u64(value, bits);
+}
+
 /* ---- in plain C: the value that a call handed out, as a number of C */
 
 /* The EBML_VALUE bytes as an unsigned number. */
@@ -215,6 +304,11 @@ static inline const char *ebml_refusal_text(int number)
     case 33: return "a master's path in the table holds a global part";
     case 34: return "a path in the table names an ID that is no master of it";
     case 35: return "two paths in the table disagree about a master's parents";
+    case 40: return "the table does not pass its check, so nothing is written";
+    case 41: return "over 512 items to write";
+    case 42: return "a Start without its End, or an End without its Start, in what is to be written";
+    case 43: return "an item to write has a wrong place, kind or value";
+    case 44: return "the lent output is shorter than the document";
     case 80: return "strictly: an ID that no file may hold, or longer than 4 bytes";
     case 81: return "strictly: an element without a size whose header reaches past the end of the master around it";
     case 90: return "the stored block does not have 2,560 bytes";

@@ -68,7 +68,7 @@ static void refusal_texts(void)
         expect("a text is there", text != 0 && text[0] != 0);
         told += strcmp(text, none) != 0;
     }
-    expect("31 refusals have a text", told == 31);
+    expect("36 refusals have a text", told == 36);
     expect("23", strcmp(ebml_refusal_text(23), "the input ended inside an element") == 0);
 }
 

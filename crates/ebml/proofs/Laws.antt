@@ -1,6 +1,6 @@
 -- Laws of the C calls' answers. Assumes nothing.
 use Prim.Native.Nat.{ℕ, _≤_, _<_}
-use mathlib.Core.Path.{_≡_, refl, sym, ap, _∙_}
+use mathlib.Core.Path.{_≡_, refl, sym, ap, ap₂, _∙_}
 use mathlib.Core.List.{List}
 use native.Mathlib.Omega.{arith}
 use native.Mathlib.Decide.{decLe}
@@ -19,6 +19,13 @@ use Rattle.table.specs.declared.types.Rule.the-variants.{NoElementId, Repeated,
 use Rattle.table.proofs.Entries.{length-table}
 use Rattle.table.proofs.Passed.{answered, fault-is}
 use Rattle.table.proofs.Shaped.{shaped}
+use Rattle.tag_writer.specs.Refusals.{errorNumber}
+use Rattle.tag_writer.specs.Write.{write}
+use Rattle.tag_writer.specs.declared.types.WriteError.{WriteError}
+use Rattle.tag_writer.specs.declared.types.WriteError.the-variants as refused
+use Rattle.tag_writer.specs.declared.types.WriteError.the-variants.{TableFails, TooManyItems, Unmatched, WrongItem}
+use Rattle.tag_writer.specs.declared.types.Wrote.{Wrote}
+use Rattle.ebml.specs.Writing.{wroteOut, writeOut, GivesBoth}
 use Rattle.ebml.specs.Numbers.{refusalOf, needMoreOf, codeOf, resultOf, valueOut, writtenOut}
 
 pub number-small : (e : ToolError) → numberOf e ≤ 7
@@ -30,6 +37,13 @@ number-small OutputTooShort = omega arith
 number-small ReadU64Overflow = omega arith
 number-small ReadI64Overflow = omega arith
 number-small ReadF64Mismatch = omega arith
+
+pub write-number-small : (e : WriteError) → errorNumber e ≤ 44
+write-number-small TableFails = omega arith
+write-number-small TooManyItems = omega arith
+write-number-small Unmatched = omega arith
+write-number-small WrongItem = omega arith
+write-number-small refused.OutputTooShort = omega arith
 
 -- a refusal's result is below that of every need-more
 pub refusal-below : (e : ToolError) (missing : ℕ) → refusalOf e < needMoreOf missing
@@ -69,3 +83,29 @@ few-faults es ps {r} {i} e =
   where
     never : Fault r i ≡ BadShape → ⊥
     never b = let z : _≡_ {A = ℕ} 0 1 = cc in omega arith
+
+-- ---- the writer
+
+-- fewer than 8 bytes lent for the length
+pub told-short : (es ps items vals out told : List ℕ) {r : ℕ} → length told < 8 → r ≡ refusalOf OutputTooShort
+    → GivesBoth r out told (writeOut es ps items vals out told)
+told-short es ps items vals out told h e = rw (lt-ltb _ _ h) (record { answer = e; document = refl; told = refl })
+
+-- what the writer answered, handed to 8 bytes or more
+pub told-length : (es ps items vals out told : List ℕ) {w : Wrote} {r : ℕ} {o t : List ℕ} → 8 ≤ length told
+    → Gives w o (write es ps items vals out) → Gives r t (wroteOut w told)
+    → GivesBoth r o t (writeOut es ps items vals out told)
+told-length es ps items vals out told h g k =
+    rw (le-ltb _ _ h)
+    (record {
+      answer = k .answer ∙ ap (λ w. wroteOut w told .0) (g .answer);
+      document = g .bytes;
+      told = k .bytes ∙ ap (λ w. wroteOut w told .1) (g .answer);
+    })
+
+-- what `GivesBoth` fixes: the result, and the two lists of lent bytes as a pair
+pub given-both : {r : ℕ} {o w : List ℕ} {p : ℕ × List ℕ × List ℕ}
+    → GivesBoth r o w p → _≡_ {A = ℕ × (List ℕ × List ℕ)} (r, (o, w)) (p .0, (p .1, p .2))
+given-both {r} {o} {w} {p} g =
+    let q : _≡_ {A = List ℕ × List ℕ} (o, w) (p .1, p .2) = ap₂ (λ o w. (o, w)) (g .document) (g .told) in
+    ap₂ (λ r q. (r, q)) (g .answer) q

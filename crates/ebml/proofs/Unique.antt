@@ -1,5 +1,7 @@
 -- No second answer meets the contract of a C call, as the checker reads it: two result numbers, and two lists of lent
 -- bytes at exit, that it allows for the same arguments are equal. Assumes nothing.
+use Prim.Native.Nat.{ℕ}
+use mathlib.Core.List.{List}
 use borrow.Fn.Kinds.{Dens}
 use contract.Lifetimes.{Lfts}
 use denote.Ref.{now}
@@ -32,6 +34,9 @@ use Rattle.ebml.proofs.numbers.ebml_arr_to_f64.Reads as ebml-arr-to-f64
 use Rattle.ebml.proofs.numbers.ebml_arr_to_f64.Kinds as ebml-arr-to-f64-kinds
 use Rattle.ebml.proofs.text.ebml_is_utf8.Reads as ebml-is-utf8
 use Rattle.ebml.proofs.text.ebml_is_utf8.Kinds as ebml-is-utf8-kinds
+use Rattle.ebml.proofs.writer.ebml_write.Reads as ebml-write
+use Rattle.ebml.proofs.writer.ebml_write.Kinds as ebml-write-kinds
+use Rattle.ebml.proofs.Laws.{given-both}
 
 pub ebml-read-vint-one : (κs : Lfts 2) (a : Dens κs ebml-read-vint-kinds.ps) → OneAnswer (ebml-read-vint.Post κs a) (answerAnd (λ e. now (e .1 .0)))
 ebml-read-vint-one κs a = one-answer (λ r e p. given p)
@@ -71,3 +76,6 @@ ebml-check-table-one κs a = one-answer (λ r e p. p)
 
 pub ebml-is-utf8-one : (κs : Lfts 1) (a : Dens κs ebml-is-utf8-kinds.ps) → OneAnswer (ebml-is-utf8.Post κs a) answer
 ebml-is-utf8-one κs a = one-answer (λ r e p. p)
+
+pub ebml-write-one : (κs : Lfts 6) (a : Dens κs ebml-write-kinds.ps) → OneAnswer (ebml-write.Post κs a) (answerAnd {B = List ℕ × List ℕ} (λ e. (now (e .1 .1 .1 .1 .0), now (e .1 .1 .1 .1 .1 .0))))
+ebml-write-one κs a = one-answer (λ r e p. given-both p)

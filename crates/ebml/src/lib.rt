@@ -4,3 +4,4 @@ mod answers;
 pub mod checks;
 pub mod numbers;
 pub mod text;
+pub mod writer;

@@ -55,6 +55,24 @@ fn answer_on_decoder(
     }
 }
 
+fn answer_on_writer(
+    line: &[u8],
+    entries: &[u64],
+    parts: &[u64],
+    session: Session,
+    out: &mut [u8],
+) -> Answered
+    requires { ⌜ HeldIn (session .table) (now entries) (now parts) ⌝ }
+    ensures { λ r. ⌜ HeldIn (r .session .table) (now (entries .entry)) (now (parts .entry)) × (r .count ≤ length (now (out .entry))) ⌝ }
+{
+    let n = session.table.entries;
+    let m = session.table.parts;
+    Answered {
+        session,
+        count: script_writer::calls::answer(line, &entries[0..n], &parts[0..m], out),
+    }
+}
+
 // The answer to one line at the front of `out`: none for an empty line or a comment. The words of a lent table stand in
 // `entries` and `parts`.
 pub fn answer(
@@ -76,6 +94,9 @@ pub fn answer(
     let end = word_end(line, 0);
     if script_table::calls::is_call(&line[0..end]) {
         return answer_on_table(line, entries, parts, session, out);
+    }
+    if script_writer::calls::is_call(&line[0..end]) {
+        return answer_on_writer(line, entries, parts, session, out);
     }
     if script_decoder::calls::is_call(&line[0..end]) {
         return answer_on_decoder(line, entries, parts, session, out);

@@ -1,0 +1,4 @@
+pub mod Cut
+pub mod Sizes
+pub mod Pieces
+pub mod Whole
