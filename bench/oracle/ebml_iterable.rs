@@ -13,6 +13,8 @@ pub mod specs;
 pub mod tag_iterator_util;
 #[path = "original/tag_parse.rs"]
 pub mod tag_parse;
+#[path = "original/tag_writer.rs"]
+pub mod tag_writer;
 #[path = "original/tools.rs"]
 pub mod tools;
 

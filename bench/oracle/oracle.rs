@@ -6,7 +6,7 @@ pub mod fields;
 mod guard;
 mod missing;
 mod numbers;
-mod table;
+pub mod table;
 
 pub use guard::silence_panics;
 

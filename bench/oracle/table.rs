@@ -42,7 +42,8 @@ pub fn answer(fields: &[&str]) -> Option<String> {
     }
 }
 
-fn lend(entries: &[u64], parts: &[u64]) -> String {
+/// Lends a table: `ok`, or `X 10` for a bad shape.
+pub fn lend(entries: &[u64], parts: &[u64]) -> String {
     let table = read(entries, parts);
     let answer = if table.is_some() { "ok" } else { "X 10" };
     TABLE.set(table);
@@ -204,6 +205,39 @@ impl EbmlTag<Tag> for Tag {
         match *self {
             Tag::Start(id) | Tag::End(id) | Tag::Unsigned(id, _) | Tag::Signed(id, _) | Tag::Float(id, _) => id,
             Tag::Text(id, _) | Tag::Binary(id, _) | Tag::Raw(id, _) => id,
+        }
+    }
+
+    fn as_unsigned_int(&self) -> Option<&u64> {
+        let Tag::Unsigned(_, value) = self else { return None };
+        Some(value)
+    }
+
+    fn as_signed_int(&self) -> Option<&i64> {
+        let Tag::Signed(_, value) = self else { return None };
+        Some(value)
+    }
+
+    fn as_utf8(&self) -> Option<&str> {
+        let Tag::Text(_, text) = self else { return None };
+        std::str::from_utf8(text).ok()
+    }
+
+    fn as_binary(&self) -> Option<&[u8]> {
+        let (Tag::Binary(_, data) | Tag::Raw(_, data)) = self else { return None };
+        Some(data)
+    }
+
+    fn as_float(&self) -> Option<&f64> {
+        let Tag::Float(_, value) = self else { return None };
+        Some(value)
+    }
+
+    fn as_master(&self) -> Option<&Master<Tag>> {
+        match self {
+            Tag::Start(_) => Some(&Master::Start),
+            Tag::End(_) => Some(&Master::End),
+            _ => None,
         }
     }
 }

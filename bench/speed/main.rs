@@ -1,7 +1,7 @@
 //! Usage: speed [SECONDS [PART..]]   or   speed once SIDE INPUT COUNT
-//! Measures our decoder, text check and number routines beside the Rust's, SECONDS on each row (0.4 if not given), and
-//! prints tables. PART is one of streams, growth, recovery, blocks, texts, numbers. `once` decodes one input COUNT times on one
-//! side, for a profiler.
+//! Measures our decoder, writer, text check and number routines beside the Rust's, SECONDS on each row (0.4 if not
+//! given), and prints tables. PART is one of streams, growth, recovery, blocks, writer, texts, numbers. `once` decodes
+//! one stream or writes one list COUNT times on one side, for a profiler.
 
 mod blocks;
 mod clock;
@@ -14,6 +14,7 @@ mod seen;
 mod streams;
 mod tables;
 mod texts;
+mod writer;
 
 use clock::Patience;
 use std::env;
@@ -22,7 +23,7 @@ use std::time::Duration;
 fn main() {
     let arguments: Vec<String> = env::args().skip(1).collect();
     if arguments.first().is_some_and(|word| word == "once") {
-        return streams::once(&arguments[1..]);
+        return once(&arguments[1..]);
     }
     let seconds = arguments.first().map_or(0.4, |word| word.parse().expect("SECONDS is a number"));
     let patience = Patience(Duration::from_secs_f64(seconds));
@@ -39,10 +40,24 @@ fn main() {
     if wanted("blocks") {
         blocks::report(patience);
     }
+    if wanted("writer") {
+        writer::report(patience);
+    }
     if wanted("texts") {
         texts::report(patience);
     }
     if wanted("numbers") {
         numbers::report(patience);
     }
+}
+
+fn once(arguments: &[String]) {
+    let [side, name, count] = arguments else {
+        panic!("usage: speed once ours|rust INPUT COUNT");
+    };
+    let count = count.parse().expect("COUNT is a number");
+    if name.starts_with("write ") {
+        return writer::once(side, name, count);
+    }
+    streams::once(side, name, count);
 }

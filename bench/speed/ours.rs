@@ -33,6 +33,20 @@ extern "C" {
     fn bench_is_utf8(text: *const u8, len: usize) -> u64;
     fn bench_restore(block: *const u8, len: usize) -> u64;
     fn bench_restore_and_store(block: *const u8, len: usize, out: *mut u8, out_len: usize) -> u64;
+    fn ebml_write(
+        entries: *const u64,
+        entries_len: usize,
+        parts: *const u64,
+        parts_len: usize,
+        items: *const u64,
+        items_len: usize,
+        values: *const u8,
+        values_len: usize,
+        out: *mut u8,
+        out_len: usize,
+        written: *mut u8,
+        written_len: usize,
+    ) -> u64;
     fn ebml_read_vint(buffer: *const u8, len: usize, out: *mut u8, out_len: usize) -> u64;
     fn ebml_read_signed_vint(buffer: *const u8, len: usize, out: *mut u8, out_len: usize) -> u64;
     fn ebml_as_vint(val: u64, out: *mut u8, out_len: usize) -> u64;
@@ -93,6 +107,28 @@ pub fn restore(block: &[u8]) -> u64 {
 /// The number of the storing's refusal, or 0.
 pub fn restore_and_store(block: &[u8], out: &mut [u8]) -> u64 {
     unsafe { bench_restore_and_store(block.as_ptr(), block.len(), out.as_mut_ptr(), out.len()) }
+}
+
+/// The length of the document, if it is written.
+pub fn write(table: &Words, items: &[u64], values: &[u8], out: &mut [u8]) -> Option<u64> {
+    let mut written = [0; 8];
+    let result = unsafe {
+        ebml_write(
+            table.entries.as_ptr(),
+            table.entries.len(),
+            table.parts.as_ptr(),
+            table.parts.len(),
+            items.as_ptr(),
+            items.len(),
+            values.as_ptr(),
+            values.len(),
+            out.as_mut_ptr(),
+            out.len(),
+            written.as_mut_ptr(),
+            written.len(),
+        )
+    };
+    (result == 8).then_some(u64::from_be_bytes(written))
 }
 
 pub fn is_utf8(text: &[u8]) -> bool {

@@ -6,6 +6,7 @@ use bytes::BytesMut;
 use ebml_iterable::errors::tag_iterator::TagIteratorError;
 use ebml_iterable::specs::{EbmlSpecification, EbmlTag, Master, PathPart, TagDataType};
 use ebml_iterable::tag_decoder::{PositionedTag, TagDecoder};
+use ebml_iterable::tag_writer::TagWriter;
 use std::marker::PhantomData;
 
 /// What the Rust hands out, as its own macro would declare it: a value, text and bytes as owned copies.
@@ -28,12 +29,12 @@ pub struct Tag<T> {
     table: PhantomData<T>,
 }
 
-fn tag<T>(id: u64, value: Value) -> Option<Tag<T>> {
-    Some(Tag {
+pub fn tag<T>(id: u64, value: Value) -> Tag<T> {
+    Tag {
         id,
         value,
         table: PhantomData,
-    })
+    }
 }
 
 impl<T: Table> EbmlSpecification<Tag<T>> for Tag<T> {
@@ -46,41 +47,70 @@ impl<T: Table> EbmlSpecification<Tag<T>> for Tag<T> {
     }
 
     fn get_unsigned_int_tag(id: u64, data: u64) -> Option<Self> {
-        tag(id, Value::Unsigned(data))
+        Some(tag(id, Value::Unsigned(data)))
     }
 
     fn get_signed_int_tag(id: u64, data: i64) -> Option<Self> {
-        tag(id, Value::Integer(data))
+        Some(tag(id, Value::Integer(data)))
     }
 
     fn get_utf8_tag(id: u64, data: String) -> Option<Self> {
-        tag(id, Value::Text(data))
+        Some(tag(id, Value::Text(data)))
     }
 
     fn get_binary_tag(id: u64, data: &[u8]) -> Option<Self> {
-        tag(id, Value::Binary(data.to_vec()))
+        Some(tag(id, Value::Binary(data.to_vec())))
     }
 
     fn get_float_tag(id: u64, data: f64) -> Option<Self> {
-        tag(id, Value::Float(data))
+        Some(tag(id, Value::Float(data)))
     }
 
     fn get_master_tag(id: u64, data: Master<Self>) -> Option<Self> {
-        tag(id, if matches!(data, Master::Start) { Value::Start } else { Value::End })
+        Some(tag(id, if matches!(data, Master::Start) { Value::Start } else { Value::End }))
     }
 
     fn get_raw_tag(id: u64, data: &[u8]) -> Self {
-        Tag {
-            id,
-            value: Value::Raw(data.to_vec()),
-            table: PhantomData,
-        }
+        tag(id, Value::Raw(data.to_vec()))
     }
 }
 
 impl<T: Table> EbmlTag<Tag<T>> for Tag<T> {
     fn get_id(&self) -> u64 {
         self.id
+    }
+
+    fn as_unsigned_int(&self) -> Option<&u64> {
+        let Value::Unsigned(n) = &self.value else { return None };
+        Some(n)
+    }
+
+    fn as_signed_int(&self) -> Option<&i64> {
+        let Value::Integer(v) = &self.value else { return None };
+        Some(v)
+    }
+
+    fn as_utf8(&self) -> Option<&str> {
+        let Value::Text(text) = &self.value else { return None };
+        Some(text)
+    }
+
+    fn as_binary(&self) -> Option<&[u8]> {
+        let (Value::Binary(data) | Value::Raw(data)) = &self.value else { return None };
+        Some(data)
+    }
+
+    fn as_float(&self) -> Option<&f64> {
+        let Value::Float(x) = &self.value else { return None };
+        Some(x)
+    }
+
+    fn as_master(&self) -> Option<&Master<Self>> {
+        match self.value {
+            Value::Start => Some(&Master::Start),
+            Value::End => Some(&Master::End),
+            _ => None,
+        }
     }
 }
 
@@ -112,6 +142,15 @@ pub fn decode<T: Table>(stream: &[u8], chunk: usize, mut buffer: BytesMut) -> Se
     };
     seen.position = decoder.position() as u64;
     seen
+}
+
+/// The document of the Rust's own writer.
+pub fn write<T: Table>(tags: &[Tag<T>]) -> Vec<u8> {
+    let mut writer = TagWriter::new(Vec::new());
+    for tag in tags {
+        writer.write(tag).expect("a list that is written");
+    }
+    writer.into_inner().expect("a list that is written")
 }
 
 /// The bytes that a recovery from fresh passes over.

@@ -137,14 +137,11 @@ fn growth(patience: Patience, what: &str, to: usize, input: Input) {
     println!("| {what} | {to} | {:.1} | {:.1} |", times.ours * 1e9 / events, times.rust * 1e9 / events);
 }
 
-pub fn once(arguments: &[String]) {
-    let [side, name, count] = arguments else {
-        panic!("usage: speed once ours|rust INPUT COUNT");
-    };
+pub fn once(side: &str, name: &str, count: usize) {
     let inputs = all();
     let input = inputs.iter().find(|input| input.name == name).expect("INPUT is the name of a stream");
-    for _ in 0..count.parse().expect("COUNT is a number") {
-        let seen = match side.as_str() {
+    for _ in 0..count {
+        let seen = match side {
             "ours" => input.ours(),
             _ => input.rust(input.buffer()),
         };

@@ -69,6 +69,29 @@ table! {
     0xA2 UnsignedInt [PathPart::Global((None, None))];
 }
 
+/// Sixteen masters, each in the one before, and a number in the last.
+#[derive(Clone)]
+pub struct Chain;
+
+macro_rules! ids {
+    ($($id:literal)*) => { [$(PathPart::Id($id)),*] };
+}
+
+static DOWN: [PathPart; 16] = ids! { 0xB0 0xB1 0xB2 0xB3 0xB4 0xB5 0xB6 0xB7 0xB8 0xB9 0xBA 0xBB 0xBC 0xBD 0xBE 0xBF };
+
+impl Table for Chain {
+    const IDS: &'static [u64] =
+        &[0xB0, 0xB1, 0xB2, 0xB3, 0xB4, 0xB5, 0xB6, 0xB7, 0xB8, 0xB9, 0xBA, 0xBB, 0xBC, 0xBD, 0xBE, 0xBF, 0xA2];
+
+    fn find(id: u64) -> Option<Entry> {
+        match id {
+            0xB0..=0xBF => Some((TagDataType::Master, &DOWN[..(id - 0xB0) as usize])),
+            0xA2 => Some((TagDataType::UnsignedInt, &DOWN)),
+            _ => None,
+        }
+    }
+}
+
 /// The two lists of words that ours is lent.
 pub struct Words {
     pub entries: Vec<u64>,

@@ -1,4 +1,5 @@
-//! Stands in for the crate `ebml_iterable_specification`: it declares what the decoder's sources name and nothing else.
+//! Stands in for the crate `ebml_iterable_specification`: it declares what the decoder's and the
+//! writer's sources name and nothing else.
 
 #[derive(Clone, Copy, Debug, Eq, PartialEq)]
 pub enum TagDataType {
@@ -40,4 +41,10 @@ where
 
 pub trait EbmlTag<T: Clone> {
     fn get_id(&self) -> u64;
+    fn as_unsigned_int(&self) -> Option<&u64>;
+    fn as_signed_int(&self) -> Option<&i64>;
+    fn as_utf8(&self) -> Option<&str>;
+    fn as_binary(&self) -> Option<&[u8]>;
+    fn as_float(&self) -> Option<&f64>;
+    fn as_master(&self) -> Option<&Master<T>>;
 }
