@@ -2,6 +2,8 @@
 
 mod answers;
 pub mod checks;
+pub mod decoder;
 pub mod numbers;
+pub mod record;
 pub mod text;
 pub mod writer;

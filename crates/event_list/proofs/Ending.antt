@@ -15,6 +15,7 @@ use Rattle.decoder_rules.specs.Record.{withOpen, withWaiting, withNotes, settle
 use Rattle.decoder_rules.specs.OneCall.{step7, noted}
 use Rattle.decoder_rules.specs.Deciding.{decide}
 use Rattle.decoder_rules.specs.Moving.{needsMore, move, apply, decode}
+use Rattle.decoder_rules.specs.EndOfInput.{decodeEof}
 use Rattle.decoder_rules.specs.declared.types.Action.{Action}
 use Rattle.decoder_rules.specs.declared.types.Answer.the-variants as answer
 use Rattle.decoder_rules.specs.declared.types.Decision.{Decision}
@@ -126,9 +127,14 @@ pub event-nearer : (es ps : List ℕ) (d : TagDecoder) (s : List ℕ) → Octets
     → 256 * (length s - decode es ps d s .taken) + weight (decode es ps d s .state) < 256 * length s + weight d
 event-nearer es ps d s byte q = decode-nearer es ps d s byte (ap isNoEvent q)
 
--- so does an event of the call that is due
+-- so does an event of the end of input
+pub eof-event-nearer : (es ps : List ℕ) (d : TagDecoder) (s : List ℕ) → Octets s → {x : Event} → decodeEof es ps d s .answer ≡ answer.Event x
+    → 256 * (length s - decodeEof es ps d s .taken) + weight (decodeEof es ps d s .state) < 256 * length s + weight d
+eof-event-nearer es ps d s byte q = eof-nearer es ps d s byte (eof-exits es ps d s) (ap isNoEvent q)
+
+-- and so does one of the call that is due
 pub call-nearer : (over : Bool) (d : TagDecoder) (s : List ℕ) → Octets s → {x : Event} → called over d s .answer ≡ answer.Event x
     → 256 * (length s - called over d s .taken) + weight (called over d s .state) < 256 * length s + weight d
 unfolding called
-call-nearer true d s byte q = eof-nearer benchEntries benchParts d s byte (eof-exits benchEntries benchParts d s) (ap isNoEvent q)
+call-nearer true d s byte q = eof-event-nearer benchEntries benchParts d s byte q
 call-nearer false d s byte q = event-nearer benchEntries benchParts d s byte q

@@ -12,6 +12,8 @@ use Rattle.texts.specs.Ascii.{ascii}
 use Rattle.whole.specs.Checking.{verdictAfter, verdictOf}
 use Rattle.whole.specs.Line as line
 use Rattle.whole.specs.Night.{readFrom, answersTo}
+use Rattle.whole.specs.Numbers.{verdictNumbers}
+use Rattle.whole.specs.declared.types.VerdictNumbers.{VerdictNumbers}
 
 -- D1's bytes
 abbrev pub d1 : List ℕ
@@ -68,3 +70,22 @@ strictExamples =
 pub all-strict-examples : map (λ (p : List ℕ × String). said true (p .0)) strictExamples ≡ map (λ (p : List ℕ × String). ascii (p .1)) strictExamples
 unfolding rulesCompute digits places verdictAfter line.counted line.sizeText line.rootText line.verdictText readFrom
 all-strict-examples = refl
+
+-- the numbers of a verdict, in their order
+abbrev pub listed : VerdictNumbers → List ℕ
+listed v =
+    v .verdict ∷ v .feeds ∷ v .records ∷ v .bytes ∷ v .number ∷ v .place ∷ v .«root_named» ∷ v .«root_id» ∷ v .«root_start» ∷ v .«root_size_named» ∷ v .«root_size» ∷ []
+
+-- inputs, and the numbers of the verdicts on them: D1, D1 cut in a payload's header, D2 and D6
+abbrev pub numberExamples : List (List ℕ × List ℕ)
+numberExamples =
+    (d1, 1 ∷ 1 ∷ 1 ∷ 12 ∷ 0 ∷ 0 ∷ 0 ∷ 0 ∷ 0 ∷ 0 ∷ 0 ∷ [])
+    ∷ (take 9 d1, 6 ∷ 0 ∷ 0 ∷ 9 ∷ 0 ∷ 8 ∷ 1 ∷ 0x4E01 ∷ 0 ∷ 1 ∷ 9 ∷ [])
+    ∷ (0x4E ∷ 0x01 ∷ 0xFF ∷ 0xA1 ∷ 0xFF ∷ 0xA2 ∷ 0x81 ∷ 0x78 ∷ [], 7 ∷ 0 ∷ 0 ∷ 0 ∷ 0 ∷ 0 ∷ 1 ∷ 0x4E01 ∷ 0 ∷ 0 ∷ 0 ∷ [])
+    ∷ (0x00 ∷ 0x81 ∷ 0x05 ∷ [], 4 ∷ 0 ∷ 0 ∷ 0 ∷ 15 ∷ 0 ∷ 0 ∷ 0 ∷ 0 ∷ 0 ∷ 0 ∷ [])
+    ∷ []
+
+-- all of them
+pub all-number-examples : map (λ (p : List ℕ × List ℕ). listed (verdictNumbers (verdictOf (answersTo false benchEntries benchParts (p .0))))) numberExamples ≡ map (λ (p : List ℕ × List ℕ). p .1) numberExamples
+unfolding rulesCompute verdictAfter readFrom
+all-number-examples = refl

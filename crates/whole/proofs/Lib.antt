@@ -1,5 +1,6 @@
 pub mod CutLists
 pub mod Examples
+pub mod InMemory
 pub mod Prefixes
 pub mod Readings
 pub mod Roots

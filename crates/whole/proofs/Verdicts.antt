@@ -18,6 +18,7 @@ use Rattle.decoder_rules.specs.declared.types.TagDecoder.{TagDecoder}
 use Rattle.event_list.specs.Whole.{Answered}
 use Rattle.whole.specs.Checking.{atStart, countedIf, seenAfter, refusedAs, finishedAs, ifFront, verdictAt, verdictAfter, verdictOf}
 use Rattle.whole.specs.Night.{isEvent, isRootAt0, hasFront, hasSize, allSized, isFinish, finishes, isRecord, records, isFeed, feeds}
+use Rattle.whole.specs.declared.types.Root.{Root}
 use Rattle.whole.specs.declared.types.Seen.{Seen}
 use Rattle.whole.specs.declared.types.Verdict.{Verdict}
 use Rattle.whole.specs.declared.types.Verdict.the-variants as verdict
@@ -142,23 +143,28 @@ saysWhole (verdict.CannotTell x p) = false
 saysWhole (verdict.More k n m) = false
 saysWhole verdict.NotEnded = false
 
+-- a refusal is told as one, or as a cut
+pub refused-says : (says : Verdict → Bool) {b : Bool} → ((n p : ℕ) → says (verdict.Refused n p) ≡ b) → ((p : ℕ) (r : Root) (m : ℕ) → says (verdict.Cut p r m) ≡ b)
+    → (e : DecodeError) (p : ℕ) (d : TagDecoder) → says (refusedAs e p d) ≡ b
+refused-says says refused cut error.TableShape p d = refused _ p
+refused-says says refused cut error.BadState p d = refused _ p
+refused-says says refused cut error.TooFar p d = refused _ p
+refused-says says refused cut error.AfterFinish p d = refused _ p
+refused-says says refused cut error.InvalidTagData p d = refused _ p
+refused-says says refused cut error.InvalidTagId p d = refused _ p
+refused-says says refused cut error.HierarchyError p d = refused _ p
+refused-says says refused cut error.InvalidTagSize p d = refused _ p
+refused-says says refused cut error.OversizedChildElement p d = refused _ p
+refused-says says refused cut error.TooManyOpen p d = refused _ p
+refused-says says refused cut error.FromUtf8Error p d = refused _ p
+refused-says says refused cut error.ReadF64Mismatch p d = refused _ p
+refused-says says refused cut (error.UnexpectedEOF c) p d = cut _ _ _
+refused-says says refused cut error.NotAMaster p d = refused _ p
+refused-says says refused cut error.InvalidIdForm p d = refused _ p
+refused-says says refused cut error.UnknownSizePastEnd p d = refused _ p
+
 refused-not-whole : (e : DecodeError) (p : ℕ) (d : TagDecoder) → saysWhole (refusedAs e p d) ≡ false
-refused-not-whole error.TableShape p d = refl
-refused-not-whole error.BadState p d = refl
-refused-not-whole error.TooFar p d = refl
-refused-not-whole error.AfterFinish p d = refl
-refused-not-whole error.InvalidTagData p d = refl
-refused-not-whole error.InvalidTagId p d = refl
-refused-not-whole error.HierarchyError p d = refl
-refused-not-whole error.InvalidTagSize p d = refl
-refused-not-whole error.OversizedChildElement p d = refl
-refused-not-whole error.TooManyOpen p d = refl
-refused-not-whole error.FromUtf8Error p d = refl
-refused-not-whole error.ReadF64Mismatch p d = refl
-refused-not-whole (error.UnexpectedEOF cut) p d = refl
-refused-not-whole error.NotAMaster p d = refl
-refused-not-whole error.InvalidIdForm p d = refl
-refused-not-whole error.UnknownSizePastEnd p d = refl
+refused-not-whole = refused-says saysWhole (λ n p. refl) (λ p r m. refl)
 
 front-not-whole : (c : Seen) (v : Verdict) → saysWhole v ≡ false → saysWhole (ifFront c v) ≡ false
 front-not-whole c v e = by (c .front)

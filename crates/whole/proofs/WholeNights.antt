@@ -1,7 +1,7 @@
 -- The check, strict or as ported, over any run of the program with a buffer of so many zero bytes, on an input of at
 -- most 2^62 bytes that comes in any pieces: what it calls WHOLE is a whole night with one record, and it calls such a
--- night so where no element is larger than the buffer; how the input is cut into pieces changes no verdict. Assumes
--- nothing.
+-- night so where no element is larger than the buffer; how the input is cut into pieces changes no verdict. What the
+-- answers to an input show is said first, of any table. Assumes nothing.
 use Prim.Native.Nat.{ℕ, _+_, _*_, _^_, _≤_, _<_, min}
 use mathlib.Core.Path.{_≡_, refl, sym, ap, subst, _∙_}
 use mathlib.Core.Bool.{Bool, true, false, false≢true}
@@ -10,6 +10,8 @@ use native.Mathlib.Omega.{arith}
 use lib.ListN.{length, replicate}
 use Rattle.tools.specs.Bytes.{Octets}
 use Rattle.table.specs.BenchTable.{benchEntries, benchParts}
+use Rattle.table.specs.Check.{checkTable}
+use Rattle.table.specs.declared.types.Checked.the-variants.{Passed}
 use Rattle.table.proofs.Examples.{checks}
 use Rattle.decoder_rules.specs.Record.{fresh, withSettings}
 use Rattle.decoder_rules.specs.declared.types.Answer.{Answer}
@@ -34,26 +36,27 @@ use Rattle.whole.proofs.Verdicts.{most, lastPosition, saysWhole, ShowsW
 pub ported-answers : (es ps s : List ℕ) → answersTo false es ps s ≡ readFrom es ps (256 * length s + 129) fresh s
 ported-answers es ps s = ap (λ (d : TagDecoder). readFrom es ps (256 * length s + 129) d s) ported-fresh
 
-module _ (strict : Bool) (s : List ℕ) (byte : Octets s) (few : length s ≤ 2 ^ 62) where
+module _ (strict : Bool) (es ps s : List ℕ) (byte : Octets s) (few : length s ≤ most) where
   abbrev all : List Answered
-  all = answersTo strict benchEntries benchParts s
+  all = answersTo strict es ps s
 
   bytes-are : finishes all ≡ true → lastPosition all ≡ length s
   unfolding withSettings
-  bytes-are f = bytes-all benchEntries benchParts (256 * length s + 129) (begun strict) s byte f ∙ omega arith
+  bytes-are f = bytes-all es ps (256 * length s + 129) (begun strict) s byte f ∙ omega arith
 
   feeds-are : min (feeds all) most ≡ feeds all
-  feeds-are = omega (arith, feeds-few benchEntries benchParts (256 * length s + 129) (begun strict) s byte)
+  feeds-are = omega (arith, feeds-few es ps (256 * length s + 129) (begun strict) s byte)
 
-  shown-one : (n m : ℕ) → ShowsWhole all n m → IsOneWhole strict benchEntries benchParts s n m
-  shown-one n m w =
+  -- answers that show a whole night, with a table that passes its check
+  pub shown-one : checkTable es ps ≡ Passed → (n m : ℕ) → ShowsWhole all n m → IsOneWhole strict es ps s n m
+  shown-one checked n m w =
       record {
         whole =
             record {
-              not-empty = front-not-empty benchEntries benchParts (256 * length s + 129) (begun strict) s byte (w .front);
+              not-empty = front-not-empty es ps (256 * length s + 129) (begun strict) s byte (w .front);
               front = w .front;
               sizes = w .sizes;
-              starts = front-starts benchEntries benchParts (checks .bench-passes) (256 * length s + 129) (begun strict) s byte (w .front);
+              starts = front-starts es ps checked (256 * length s + 129) (begun strict) s byte (w .front);
               finish = w .finish;
             };
         one = w .one;
@@ -61,7 +64,8 @@ module _ (strict : Bool) (s : List ℕ) (byte : Octets s) (few : length s ≤ 2 
         byte-count = w .byte-count ∙ bytes-are (w .finish);
       }
 
-  one-shown : (n m : ℕ) → IsOneWhole strict benchEntries benchParts s n m → ShowsWhole all n m
+  -- and what those of a whole night show, with any table
+  pub one-shown : (n m : ℕ) → IsOneWhole strict es ps s n m → ShowsWhole all n m
   one-shown n m w =
       record {
         front = w .whole .front;
@@ -103,7 +107,8 @@ front-event a f = by (a .answer) f
     by answer.Finished g = absurd (false≢true g)
     by (answer.Refused r) g = absurd (false≢true g)
 
-by-shown : (l : List Answered) (n m : ℕ) → ShowsWhole l n m → verdictOf l ≡ Whole n m
+-- the verdict on answers that show it
+pub by-shown : (l : List Answered) (n m : ℕ) → ShowsWhole l n m → verdictOf l ≡ Whole n m
 unfolding hasFront finishes
 by-shown [] n m w = absurd (false≢true (w .front))
 by-shown (a ∷ []) n m w = absurd (false≢true (finish-later a [] (front-event a (w .front)) (w .finish) .0))
@@ -119,13 +124,13 @@ module _ (strict : Bool) (size : ℕ) (some : 0 < size) (ps : List (List ℕ)) (
   whole-is-whole n m v =
       let shown = shown-by answers n m v in
       let same = run-reads-all size some strict answers byte few (finish-asks-no-more size some answers (shown .finish)) in
-      shown-one strict (joined ps) byte few n m (subst (λ (x : List Answered). ShowsWhole x n m) same shown)
+      shown-one strict benchEntries benchParts (joined ps) byte (omega arith) (checks .bench-passes) n m (subst (λ (x : List Answered). ShowsWhole x n m) same shown)
 
   -- and what is whole is called so, where no element is larger than the buffer
   pub whole-is-told : (n m : ℕ) → noneAsks l ≡ true → IsOneWhole strict benchEntries benchParts (joined ps) n m → verdictOf l ≡ Whole n m
   whole-is-told n m asks w =
       let same = run-reads-all size some strict answers byte few asks in
-      by-shown l n m (subst (λ (x : List Answered). ShowsWhole x n m) (sym same) (one-shown strict (joined ps) byte few n m w))
+      by-shown l n m (subst (λ (x : List Answered). ShowsWhole x n m) (sym same) (one-shown strict benchEntries benchParts (joined ps) byte (omega arith) n m w))
 
   -- and the verdict is that on the answers to the whole input, where no element is larger than the buffer
   pub verdict-of-input : noneAsks l ≡ true → verdictOf l ≡ verdictOf (answersTo strict benchEntries benchParts (joined ps))

@@ -1,3 +1,4 @@
 pub mod Checking
 pub mod Line
 pub mod Night
+pub mod Numbers

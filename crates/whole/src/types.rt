@@ -58,3 +58,23 @@ pub enum Verdict {
     // the answer was an event
     NotEnded,
 }
+
+// A verdict for C. `verdict` says which: 1 whole, 2 empty, 3 the front is missing, 4 refused, 5 an element is too large,
+// 6 cut, 7 cannot tell, 8 several records, 9 not ended. What a verdict does not name is 0. `number` is a refusal's;
+// `place` that of a refusal, of an element that is too large, or the `at` of a cut. The root is the outermost open
+// master of a cut, or the master that has no size; `root_named` and `root_size_named` are 1 where there is one, and
+// where it has a size.
+#[repr(C)]
+pub struct VerdictNumbers {
+    pub verdict: u64,
+    pub feeds: u64,
+    pub records: u64,
+    pub bytes: u64,
+    pub number: u64,
+    pub place: u64,
+    pub root_named: u64,
+    pub root_id: u64,
+    pub root_start: u64,
+    pub root_size_named: u64,
+    pub root_size: u64,
+}

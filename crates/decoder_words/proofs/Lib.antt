@@ -1,0 +1,6 @@
+pub mod Bounds
+pub mod Refusing
+pub mod Answered
+pub mod Words
+pub mod Unique
+pub mod Examples

@@ -1,0 +1,3 @@
+pub mod StayAccepted
+pub mod AsByValue
+pub mod OneByOne
