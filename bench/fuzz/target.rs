@@ -1,5 +1,6 @@
 //! What the fuzzer calls: bytes become a session of decoder calls, which the Rust answers here and ours from the script
-//! of its calls. A difference that is not a listed one ends the program, and so does a call that does not return.
+//! of its calls, once as `replay` does and once by the C calls (from_c.c). A difference that is not a listed one ends the
+//! program, and so does a call that does not return.
 
 mod reading;
 
@@ -27,6 +28,7 @@ extern "C" {
         out: *mut u8,
         out_len: usize,
     ) -> u64;
+    fn from_c_script(script: *const u8, script_len: usize, out: *mut u8, out_len: usize) -> usize;
 }
 
 #[no_mangle]
@@ -40,6 +42,7 @@ pub extern "C" fn LLVMFuzzerTestOneInput(data: *const u8, len: usize) -> i32 {
     let session = Session::of(data);
     let ours = session.asked_of_ours();
     session.compare(&ours);
+    session.compare(&session.asked_from_c());
     0
 }
 
@@ -164,6 +167,14 @@ impl Session {
             )
         };
         out.truncate(filled as usize);
+        out
+    }
+
+    fn asked_from_c(&self) -> Vec<u8> {
+        let script = self.calls.join("\n");
+        let mut out = vec![0; ROOM];
+        let filled = unsafe { from_c_script(script.as_ptr(), script.len(), out.as_mut_ptr(), out.len()) };
+        out.truncate(filled);
         out
     }
 

@@ -1,10 +1,12 @@
 //! Usage: speed [SECONDS [PART..]]   or   speed once SIDE INPUT COUNT
 //! Measures our decoder, writer, text check and number routines beside the Rust's, SECONDS on each row (0.4 if not
-//! given), and prints tables. PART is one of streams, growth, recovery, blocks, writer, texts, numbers. `once` decodes
-//! one stream or writes one list COUNT times on one side, for a profiler.
+//! given), and prints tables. PART is one of streams, c, growth, recovery, blocks, writer, texts, numbers. `once` decodes
+//! one stream or writes one list COUNT times on one side, for a profiler: SIDE is ours or rust, and of a stream also one
+//! or many, by the C calls of an event and of many.
 
 mod blocks;
 mod clock;
+mod from_c;
 mod inputs;
 mod numbers;
 mod ours;
@@ -31,6 +33,9 @@ fn main() {
     if wanted("streams") {
         streams::report(patience);
     }
+    if wanted("c") {
+        streams::report_from_c(patience);
+    }
     if wanted("growth") {
         streams::report_growth(patience);
     }
@@ -53,7 +58,7 @@ fn main() {
 
 fn once(arguments: &[String]) {
     let [side, name, count] = arguments else {
-        panic!("usage: speed once ours|rust INPUT COUNT");
+        panic!("usage: speed once ours|rust|one|many INPUT COUNT");
     };
     let count = count.parse().expect("COUNT is a number");
     if name.starts_with("write ") {

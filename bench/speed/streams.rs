@@ -3,7 +3,7 @@
 use crate::clock::{measure, Patience, Times};
 use crate::inputs::{ascii, deep, night, payloads, repeated, unknown_night};
 use crate::tables::{words, Deep, Document, Of16, Of32, Of64, Table, Words};
-use crate::{ours, rust_side, seen::Seen};
+use crate::{from_c, ours, rust_side, seen::Seen};
 use bytes::BytesMut;
 use std::hint::black_box;
 
@@ -56,6 +56,10 @@ impl Input {
         ours::decode(&self.words, black_box(&self.stream), self.chunk)
     }
 
+    fn from_c(&self, room: usize) -> Seen {
+        from_c::decode(&self.words, black_box(&self.stream), self.chunk, room)
+    }
+
     fn buffer(&self) -> BytesMut {
         match self.chunk {
             0 => BytesMut::from(&self.stream[..]),
@@ -75,11 +79,11 @@ impl Input {
         seen
     }
 
-    fn times(&self, patience: Patience) -> Times {
+    fn times(&self, patience: Patience, ours: impl Fn(&Input) -> Seen) -> Times {
         measure(
             patience,
             || {
-                black_box(self.ours());
+                black_box(ours(self));
             },
             || self.buffer(),
             |buffer| {
@@ -96,7 +100,7 @@ pub fn report(patience: Patience) {
     for input in all() {
         let events = input.checked().events as f64;
         let bytes = input.stream.len() as f64;
-        let Times { ours, rust } = input.times(patience);
+        let Times { ours, rust } = input.times(patience, Input::ours);
         println!(
             "| {} | {bytes} | {events} | {:.1} | {:.1} | {:.2} | {:.2} | {:.0} | {:.0} | {:.2} |",
             input.name,
@@ -107,6 +111,29 @@ pub fn report(patience: Patience) {
             bytes / ours / 1e6,
             bytes / rust / 1e6,
             ours / rust,
+        );
+    }
+}
+
+/// The same streams by the C calls: an event a call, and many events a call.
+pub fn report_from_c(patience: Patience) {
+    println!("\n## The decoder from C, ns an event\n");
+    println!("| stream | events | one by one | {} at a time | the Rust | one by one / Rust | at a time / Rust |", from_c::MANY);
+    println!("|---|---|---|---|---|---|---|");
+    for input in all() {
+        let seen = input.checked();
+        assert_eq!((seen, seen), (input.from_c(from_c::ONE), input.from_c(from_c::MANY)), "{}", input.name);
+        let events = seen.events as f64;
+        let one = input.times(patience, |input| input.from_c(from_c::ONE));
+        let many = input.times(patience, |input| input.from_c(from_c::MANY));
+        println!(
+            "| {} | {events} | {:.1} | {:.1} | {:.1} | {:.2} | {:.2} |",
+            input.name,
+            one.ours * 1e9 / events,
+            many.ours * 1e9 / events,
+            one.rust.min(many.rust) * 1e9 / events,
+            one.ours / one.rust,
+            many.ours / many.rust,
         );
     }
 }
@@ -133,7 +160,7 @@ pub fn report_growth(patience: Patience) {
 
 fn growth(patience: Patience, what: &str, to: usize, input: Input) {
     let events = input.checked().events as f64;
-    let times = input.times(patience);
+    let times = input.times(patience, Input::ours);
     println!("| {what} | {to} | {:.1} | {:.1} |", times.ours * 1e9 / events, times.rust * 1e9 / events);
 }
 
@@ -143,6 +170,8 @@ pub fn once(side: &str, name: &str, count: usize) {
     for _ in 0..count {
         let seen = match side {
             "ours" => input.ours(),
+            "one" => input.from_c(from_c::ONE),
+            "many" => input.from_c(from_c::MANY),
             _ => input.rust(input.buffer()),
         };
         black_box(seen);
