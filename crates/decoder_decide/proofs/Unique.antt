@@ -1,6 +1,6 @@
 -- No second answer meets a contract of this crate, as the checker reads it. A contract that is made of every record that
 -- looks so fixes the answer where there is such a record: for close_or_fault there always is one, and for
--- valid_header and decide, which are handed what was seen of a record, it is asked for. Assumes nothing.
+-- valid_header, decide_shaped and decide, which are handed what was seen of a record, it is asked for. Assumes nothing.
 use Prim.Native.Nat.{ℕ, min, _≤_}
 use mathlib.Core.Path.{_≡_}
 use mathlib.Core.Bool.{false}
@@ -22,8 +22,8 @@ use Rattle.decoder_decide.proofs.checks.check_10_to_12.Reads as check-1
 use Rattle.decoder_decide.proofs.checks.check_10_to_12.Kinds as check-10-to-12-kinds
 use Rattle.decoder_decide.proofs.checks.check_13.Reads as check-13
 use Rattle.decoder_decide.proofs.checks.check_13.Kinds as check-13-kinds
-use Rattle.decoder_decide.proofs.checks.check_10_to_13.Reads as check-10-to-13
-use Rattle.decoder_decide.proofs.checks.check_10_to_13.Kinds as check-10-to-13-kinds
+use Rattle.decoder_decide.proofs.checks.check_11_to_13.Reads as check-11-to-13
+use Rattle.decoder_decide.proofs.checks.check_11_to_13.Kinds as check-11-to-13-kinds
 use Rattle.decoder_decide.proofs.closing.all_masters.Reads as all-masters
 use Rattle.decoder_decide.proofs.closing.all_masters.Kinds as all-masters-kinds
 use Rattle.decoder_decide.proofs.closing.close_or_fault.Reads as close-or-fault
@@ -32,6 +32,8 @@ use Rattle.decoder_decide.proofs.element.step11.Reads as step11
 use Rattle.decoder_decide.proofs.element.step11.Kinds as step11-kinds
 use Rattle.decoder_decide.proofs.decide.is_id_allowed.Reads as is-id-allowed
 use Rattle.decoder_decide.proofs.decide.is_id_allowed.Kinds as is-id-allowed-kinds
+use Rattle.decoder_decide.proofs.decide.decide_shaped.Reads as decide-shaped
+use Rattle.decoder_decide.proofs.decide.decide_shaped.Kinds as decide-shaped-kinds
 use Rattle.decoder_decide.proofs.decide.decide.Reads as decide
 use Rattle.decoder_decide.proofs.decide.decide.Kinds as decide-kinds
 use Rattle.decoder_decide.proofs.header.does_settle.Reads as does-settle
@@ -55,8 +57,8 @@ check-10-to-12-one κs a = one-answer (λ r e p. p)
 pub check-13-one : (κs : Lfts 0) (a : Dens κs check-13-kinds.ps) → OneAnswer (check-13.Post κs a) answer
 check-13-one κs a = one-answer (λ r e p. p)
 
-pub check-10-to-13-one : (κs : Lfts 2) (a : Dens κs check-10-to-13-kinds.ps) → OneAnswer (check-10-to-13.Post κs a) answer
-check-10-to-13-one κs a = one-answer (λ r e p. p)
+pub check-11-to-13-one : (κs : Lfts 0) (a : Dens κs check-11-to-13-kinds.ps) → OneAnswer (check-11-to-13.Post κs a) answer
+check-11-to-13-one κs a = one-answer (λ r e p. p)
 
 pub all-masters-one : (κs : Lfts 3) (a : Dens κs all-masters-kinds.ps) → OneAnswer (all-masters.Post κs a) answer
 all-masters-one κs a = one-answer (λ r e p. p)
@@ -104,6 +106,11 @@ pub valid-header-one : (κs : Lfts 4) (a : Dens κs valid-header-kinds.ps) (d : 
     → Shown (now (a .1 .1 .1 .0)) (now (a .1 .1 .1 .1 .0)) (a .1 .1 .0 .count) (opens d)
     → OneAnswer (valid-header.Post κs a) answer
 valid-header-one κs a d seen shown = one-answer (λ r e p. p d seen shown)
+
+pub decide-shaped-one : (κs : Lfts 5) (a : Dens κs decide-shaped-kinds.ps) (d : TagDecoder) → a .1 .1 .0 ≡ summary d
+    → Shown (now (a .1 .1 .1 .0)) (now (a .1 .1 .1 .1 .0)) (min (d .«open_count») mostOpen) (opens d)
+    → OneAnswer (decide-shaped.Post κs a) answer
+decide-shaped-one κs a d seen shown = one-answer (λ r e p. p d seen shown)
 
 pub decide-one : (κs : Lfts 5) (a : Dens κs decide-kinds.ps) (d : TagDecoder) → a .1 .1 .0 ≡ summary d
     → Shown (now (a .1 .1 .1 .0)) (now (a .1 .1 .1 .1 .0)) (min (d .«open_count») mostOpen) (opens d)

@@ -5,6 +5,7 @@ ghost use Prim.Native.Nat.{_+_, _^_};
 ghost use lib.Dec.{leb};
 ghost use Rattle.decoder_rules.specs.OneCall.{andThen, check10to12, check13};
 ghost use Rattle.decoder_rules.specs.Record.{farthest};
+ghost use Rattle.decoder_decide.specs.Parts.{check11to12};
 use decoder_rules::types::Check;
 use decoder_rules::types::DecodeError;
 use decoder_rules::types::FARTHEST;
@@ -20,13 +21,10 @@ fn in_reach(position: u64, n: usize) -> bool
     n as u64 <= FARTHEST - position
 }
 
-// 10, 11 and 12, with n bytes lent; `good` is the test of the state, which decoder_look has made.
-pub fn check_10_to_12(entries: &[u64], parts: &[u64], good: bool, position: u64, n: usize) -> Check
-    ensures { λ r. ⌜ r ≡ check10to12 (now (entries .entry)) (now (parts .entry)) good position n ⌝ }
+// 11 and 12, with n bytes lent; `good` is the test of the state, which decoder_look has made.
+fn check_11_to_12(good: bool, position: u64, n: usize) -> Check
+    ensures { λ r. ⌜ r ≡ check11to12 good position n ⌝ }
 {
-    if !good_shape(entries, parts) {
-        return Check::Fail(DecodeError::TableShape);
-    }
     if !good {
         return Check::Fail(DecodeError::BadState);
     }
@@ -34,6 +32,16 @@ pub fn check_10_to_12(entries: &[u64], parts: &[u64], good: bool, position: u64,
         return Check::Fail(DecodeError::TooFar);
     }
     Check::Pass
+}
+
+// 10, 11 and 12, likewise.
+pub fn check_10_to_12(entries: &[u64], parts: &[u64], good: bool, position: u64, n: usize) -> Check
+    ensures { λ r. ⌜ r ≡ check10to12 (now (entries .entry)) (now (parts .entry)) good position n ⌝ }
+{
+    if !good_shape(entries, parts) {
+        return Check::Fail(DecodeError::TableShape);
+    }
+    check_11_to_12(good, position, n)
 }
 
 // 13, of the record's one field that it reads, with n bytes lent.
@@ -48,18 +56,11 @@ pub fn check_13(finished: bool, n: usize) -> Check
     Check::Pass
 }
 
-// Step 1, where the state was found good or not, and of the record's fields that it reads.
-pub fn check_10_to_13(
-    entries: &[u64],
-    parts: &[u64],
-    good: bool,
-    position: u64,
-    finished: bool,
-    n: usize,
-) -> Check
-    ensures { λ r. ⌜ r ≡ andThen (check10to12 (now (entries .entry)) (now (parts .entry)) good position n) (check13 finished n) ⌝ }
+// Step 1 without 10, where the state was found good or not, and of the record's fields that it reads.
+pub fn check_11_to_13(good: bool, position: u64, finished: bool, n: usize) -> Check
+    ensures { λ r. ⌜ r ≡ andThen (check11to12 good position n) (check13 finished n) ⌝ }
 {
-    match check_10_to_12(entries, parts, good, position, n) {
+    match check_11_to_12(good, position, n) {
         Check::Pass => check_13(finished, n),
         Check::Fail(e) => Check::Fail(e),
     }

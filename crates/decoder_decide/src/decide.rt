@@ -1,5 +1,6 @@
 // The steps together, from the last to the first.
 
+ghost use mathlib.Core.Bool.{true};
 ghost use mathlib.Core.Path.{_≡_};
 ghost use Prim.Native.Nat.{_≤_};
 ghost use lib.ListN.{length};
@@ -9,9 +10,9 @@ ghost use Rattle.decoder_rules.specs.OneCall.{goodForm};
 ghost use Rattle.decoder_rules.specs.Deciding.{plain, steps8-11, steps6-11, decide};
 ghost use Rattle.decoder_look.specs.Summary.{ForEveryRecordSeenAs, ForEveryRecordSummedUpAs};
 ghost use Rattle.decoder_decide.specs.GoodViews.{GoodView, SoundSummary, GoodHeader, isIdAllowed, idRefusal, settledView, ForSettled};
-ghost use Rattle.table.specs.Shape.{mostParts};
+ghost use Rattle.table.specs.Shape.{mostParts, goodShape};
 ghost use Rattle.spec_util.specs.Walk.{mostOpen};
-use crate::checks::check_10_to_13;
+use crate::checks::check_11_to_13;
 use crate::closing::close_or_fault;
 use crate::element::step11;
 use crate::header::settling_note;
@@ -30,6 +31,7 @@ use spec_util::types::MOST_OPEN;
 use table::lookup::is_typed;
 use table::parts::path_length;
 use table::parts::path_part;
+use table::shape::good_shape;
 use table::types::Path;
 use table::types::PathPart;
 use tag_parse::header::read_header;
@@ -189,8 +191,8 @@ fn steps6_11(
     plain(steps8_11(entries, parts, view, ids, knowns, h, input))
 }
 
-// What a call does: the steps in their order, on what was seen of the record.
-pub fn decide(
+// What a call does with a table of good shape (10): the steps in their order, on what was seen of the record.
+pub fn decide_shaped(
     entries: &[u64],
     parts: &[u64],
     summary: Summary,
@@ -199,14 +201,13 @@ pub fn decide(
     input: &[u8],
 ) -> Decision
     requires { ⌜ (length (now ids) ≡ mostOpen) × (length (now knowns) ≡ mostOpen) × SoundSummary summary ⌝ }
+    requires { ⌜ goodShape (now entries) (now parts) ≡ true ⌝ }
     ensures { λ r. ⌜ ForEveryRecordSummedUpAs summary (now (ids .entry)) (now (knowns .entry)) (λ d. r ≡ decide (now (entries .entry)) (now (parts .entry)) d (now (input .entry))) ⌝ }
 {
     let view = summary.view;
     let count = view.count;
     let n = input.len();
-    if let Check::Fail(e) = check_10_to_13(
-        entries,
-        parts,
+    if let Check::Fail(e) = check_11_to_13(
         summary.is_state_good,
         view.position,
         summary.finished,
@@ -233,4 +234,22 @@ pub fn decide(
         ReadHeader::Refused(e) => plain(Action::Refuse(parse_error(e))),
         ReadHeader::Header(h) => steps6_11(entries, parts, view, ids, knowns, h, input),
     }
+}
+
+// What a call does: 10, and then the other steps.
+pub fn decide(
+    entries: &[u64],
+    parts: &[u64],
+    summary: Summary,
+    ids: &[u64],
+    knowns: &[bool],
+    input: &[u8],
+) -> Decision
+    requires { ⌜ (length (now ids) ≡ mostOpen) × (length (now knowns) ≡ mostOpen) × SoundSummary summary ⌝ }
+    ensures { λ r. ⌜ ForEveryRecordSummedUpAs summary (now (ids .entry)) (now (knowns .entry)) (λ d. r ≡ decide (now (entries .entry)) (now (parts .entry)) d (now (input .entry))) ⌝ }
+{
+    if !good_shape(entries, parts) {
+        return plain(Action::Refuse(DecodeError::TableShape));
+    }
+    decide_shaped(entries, parts, summary, ids, knowns, input)
 }

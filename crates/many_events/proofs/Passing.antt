@@ -1,16 +1,16 @@
 -- Events that are made without a call: what a quick decision says, and how what was seen of the record goes on with the
 -- record. Assumes nothing.
 use Prim.Native.Nat.{ℕ, _+_, _*_, _-_, _/_, _≤_, _<_, min}
-use mathlib.Core.Bool.{Bool, true, false, cond, _&&_, false≢true}
+use mathlib.Core.Bool.{Bool, true, false, cond, false≢true}
 use mathlib.Core.List.{List, [], _∷_, map}
 use mathlib.Core.Path.{_≡_, refl, sym, ap, _∙_, subst}
 use native.Mathlib.Nat.{add-zero}
 use native.Mathlib.Omega.{arith}
-use borrow.Author.Tests.{lt-leb, ltb-true}
-use lib.Dec.{leb, ltb}
-use lib.ListN.{length, getD, set, drop, length-drop, List·getD-map}
-use lib.Seq.{sets, length-sets, getD-set-same}
-use Rattle.basics.specs.Lists.{every, firstIndex}
+use borrow.Author.Tests.{ltb-true}
+use lib.Dec.{ltb}
+use lib.ListN.{length, getD, set, take, drop, length-drop, List·getD-map}
+use lib.Seq.{sets, length-sets, getD-set-same, getD-take, take-at, length-take-le}
+use Rattle.basics.specs.Lists.{every}
 use Rattle.tools.specs.Bytes.{Octets}
 use Rattle.table.specs.Table.{tableOf}
 use Rattle.spec_util.specs.Walk.{mostOpen, noTag, Shown}
@@ -18,8 +18,8 @@ use Rattle.spec_util.specs.declared.types.OpenTag.{OpenTag}
 use Rattle.tag_parse.specs.declared.types.EBMLSize.{EBMLSize}
 use Rattle.tag_parse.specs.declared.types.TagValue.{TagValue}
 use Rattle.tag_parse.proofs.Cases.{octets-drop}
-use Rattle.decoder_rules.specs.Record.{farthest, opens, waits, endOf, endFor, atPosition, withNotes, withOpen, oneMore, countedLast, counted, opened, closedTo}
-use Rattle.decoder_rules.specs.OneCall.{goodEnd, goodState, isFull, step3, noted}
+use Rattle.decoder_rules.specs.Record.{farthest, opens, waits, endFor, atPosition, withNotes, withOpen, withWaiting, oneMore, countedLast, counted, opened, closedTo}
+use Rattle.decoder_rules.specs.OneCall.{goodEnd, goodState, step3, noted}
 use Rattle.decoder_rules.specs.Deciding.{plain, decide}
 use Rattle.decoder_rules.specs.Moving.{gives, masterAt, move, apply, decode}
 use Rattle.decoder_rules.specs.EndOfInput.{endedOr, decodeEof}
@@ -32,13 +32,14 @@ use Rattle.decoder_rules.specs.declared.types.Event.{Event}
 use Rattle.decoder_rules.specs.declared.types.Event.the-variants as event
 use Rattle.decoder_rules.specs.declared.types.Note.{Note}
 use Rattle.decoder_rules.specs.declared.types.Note.the-variants.{NoNote, Settle}
+use Rattle.decoder_rules.specs.declared.types.Settings.{Settings}
 use Rattle.decoder_rules.specs.declared.types.TagDecoder.{TagDecoder}
 use Rattle.decoder_rules.specs.declared.types.WaitingEnd.{WaitingEnd}
 use Rattle.decoder_rules.proofs.GoodState.{GoodState, good-state, is-good-state}
-use Rattle.decoder_rules.proofs.MovesKeepGoodState.{ends-later}
-use Rattle.decoder_rules.proofs.MoveEffects.{Arrays, ends-head, opens-length, with-notes-arrays, opened-arrays, closed-arrays}
+use Rattle.decoder_rules.proofs.MovesKeepGoodState.{ends-later, closed-good}
+use Rattle.decoder_rules.proofs.MoveEffects.{Arrays, ends-head, opens-length, with-notes-arrays, opened-opens, opened-arrays, closed-opens, closed-arrays}
 use Rattle.decoder_rules.proofs.Counting.{counted-arrays, counted-map, counted-good}
-use Rattle.decoder_look.specs.Summary.{unbounded, shownEnd, leastEnd, summaryWith, summary, ShownInFront}
+use Rattle.decoder_look.specs.Summary.{shownEnd, leastEnd, summaryWith, summary, ShownInFront}
 use Rattle.decoder_look.specs.declared.summary.Summary.{Summary}
 use Rattle.decoder_look.proofs.GoodEnds.{none-waits, with-ends}
 use Rattle.decoder_look.proofs.Shown.{shown-in-front}
@@ -47,13 +48,14 @@ use Rattle.decoder_move.proofs.DecisionApplies.{decide-applies}
 use Rattle.decoder_move.proofs.MoveParts.{child-counted}
 use Rattle.many_events.specs.Events.{eventSize, innermost, startWords, valueWords, endWords, eventWords}
 use Rattle.many_events.specs.Many.{oneCall}
-use Rattle.many_events.specs.Turns.{Turning, PassesOver, quickNoted, quickOf, summaryAt}
+use Rattle.many_events.specs.Turns.{Turning, PassesOver, quickNoted, quickOf, seenAs}
 use Rattle.many_events.specs.declared.quick.Passed.{Passed}
 use Rattle.many_events.specs.declared.quick.Quick.{Quick}
 use Rattle.many_events.specs.declared.quick.Quick.the-variants as quick
 use Rattle.many_events.specs.declared.types.Ran.{Ran}
 use Rattle.many_events.proofs.Calling.{call-within}
 use Rattle.many_events.proofs.Turns.{event-turn}
+use Rattle.many_events.proofs.Ends.{none-full, least-same, front-same, top-full, Around}
 
 -- ---- a quick decision
 
@@ -122,32 +124,27 @@ pub end-fits : (d : TagDecoder) (n k : ℕ) → ActionApplies d n (act.Close k) 
 unfolding ActionApplies
 end-fits d n k f = f
 
--- ---- the masters' ends
+-- ---- what is seen of the record
 
--- a master that ends beyond is not full
-not-full : (q : ℕ) (m : OpenTag) → q < shownEnd m → isFull q m ≡ false
-unfolding shownEnd isFull
-not-full q m h = go (m .known) h
+-- of one that differs by its masters and its position
+as-seen : {k : Summary} (d e : TagDecoder) → k ≡ summary d → d .settings ≡ e .settings → d .settled ≡ e .settled → d .finished ≡ e .finished
+    → d .«waiting_count» ≡ e .«waiting_count» → true ≡ goodState e → {first least : ℕ} → first ≡ step3 e → least ≡ leastEnd (opens e)
+    → seenAs k (e .position) (e .«open_count») first least ≡ summary e
+as-seen d e is sets settled finished waits good {first} {least} full end =
+    ap (λ (y : Summary). seenAs y (e .position) (e .«open_count») first least) is ∙ all sets settled finished waits good full end
   where
-    go : (b : Bool) → q < cond b (min (endOf m) unbounded) unbounded → (b && leb (endOf m) q) ≡ false
-    go true k = lt-leb (endOf m) q (omega arith)
-    go false k = refl
+    with-them : Settings → Bool → Bool → ℕ → Bool → ℕ → ℕ → Summary
+    with-them settings settled finished waits good first least = record {
+      «is_state_good» = good;
+      finished = finished;
+      «waiting_count» = waits;
+      «first_full» = first;
+      view = record { settings = settings; position = e .position; settled = settled; count = e .«open_count»; «least_end» = least };
+    }
 
--- before the least end none is full
-none-full : (q : ℕ) (l : List OpenTag) → q < leastEnd l → firstIndex (isFull q) l ≡ length l
-unfolding firstIndex leastEnd
-none-full q [] h = refl
-none-full q (m ∷ l) h = rw (not-full q m (omega arith), none-full q l (omega arith)) (omega arith)
-
--- the least of numbers
-leastOf : List ℕ → ℕ
-leastOf [] = unbounded
-leastOf (n ∷ l) = min n (leastOf l)
-
-least-of : (l : List OpenTag) → leastEnd l ≡ leastOf (map shownEnd l)
-unfolding leastEnd leastOf
-least-of [] = refl
-least-of (m ∷ l) = rw (least-of l)
+    all : {a a′ : Settings} {b b′ c c′ : Bool} {h h′ : ℕ} {i i′ : Bool} {m m′ n n′ : ℕ} → a ≡ a′ → b ≡ b′ → c ≡ c′ → h ≡ h′ → i ≡ i′ → m ≡ m′ → n ≡ n′
+        → with-them a b c h i m n ≡ with-them a′ b′ c′ h′ i′ m′ n′
+    all p q r s t u v = rw (p, q, r, s, t, u, v)
 
 -- ---- the record goes on
 
@@ -175,6 +172,27 @@ module _ (d : TagDecoder) (a : Arrays d) (few : d .«open_count» ≤ mostOpen) 
   unfolding counted withOpen withNotes
   moved-many = opens-length movedOn moved-arrays few
 
+  least-there : leastEnd (opens d) ≡ leastEnd (opens movedOn)
+  unfolding shownEnd oneMore
+  least-there = least-same (opens d) (opens movedOn) (sym (same shownEnd (λ m. refl)))
+
+  -- the masters around its top one end as they did
+  pub moved-around : {o : ℕ} → Around o d → Around o movedOn
+  unfolding counted withOpen withNotes shownEnd oneMore
+  moved-around r = record { some = r .some; least = λ h. r .least h ∙ front-same (d .«open_count» - 1) (opens d) (opens movedOn) (sym (same shownEnd (λ m. refl))) }
+
+  -- all that were open are around a master more
+  pub opened-around : {k : Summary} → k ≡ summary d → (m : OpenTag) → d .«open_count» < mostOpen → Around (k .view .«least_end») (opened movedOn m)
+  unfolding opened counted withOpen withNotes
+  opened-around {k} is m room =
+      let long = moved-arrays .masters in
+      let e : d .«open_count» + 1 - 1 ≡ d .«open_count» = omega arith in
+      record {
+        some = λ h. omega arith;
+        least = λ h. ap (λ (y : Summary). y .view .«least_end») is ∙ least-there
+            ∙ ap leastEnd (sym (ap (λ (i : ℕ). take i (opens (opened movedOn m))) e ∙ ap (take (d .«open_count»)) (opened-opens movedOn m (omega arith)) ∙ take-at (opens movedOn) (m ∷ []) (d .«open_count») moved-many));
+      }
+
   -- the same words show its masters
   pub moved-shown : {ids : List ℕ} {knowns : List Bool} → Shown ids knowns (min (d .«open_count») mostOpen) (opens d)
       → Shown ids knowns (min (movedOn .«open_count») mostOpen) (opens movedOn)
@@ -199,25 +217,22 @@ module _ (d : TagDecoder) (a : Arrays d) (few : d .«open_count» ≤ mostOpen) 
     moved-good = is-good-state movedOn (counted-good d g a q later near)
 
     -- what is seen of it, before the least end
-    pub moved-seen : {k : Summary} → k ≡ summary d → q < k .view .«least_end» → summaryAt k q ≡ summary movedOn
-    unfolding counted withOpen withNotes shownEnd oneMore
+    pub moved-seen : {k : Summary} → k ≡ summary d → q < k .view .«least_end» → seenAs k q (d .«open_count») (d .«open_count») (k .view .«least_end») ≡ summary movedOn
+    unfolding counted withOpen withNotes
     moved-seen {k} is h =
-        let old : k .view .«least_end» ≡ leastEnd (opens d) = ap (λ (y : Summary). y .view .«least_end») is in
-        let least : leastEnd (opens d) ≡ leastEnd (opens movedOn) = least-of (opens d) ∙ sym (least-of (opens movedOn) ∙ ap leastOf (same shownEnd (λ m. refl))) in
-        let full : step3 movedOn ≡ d .«open_count» = none-full q (opens movedOn) (omega arith) ∙ moved-many in
-        ap (λ (y : Summary). summaryAt y q) is ∙ three true (goodState movedOn) (d .«open_count») (step3 movedOn) (leastEnd (opens d)) (leastEnd (opens movedOn)) (sym moved-good) (sym full) least
-      where
-        with-them : Bool → ℕ → ℕ → Summary
-        with-them good first least = record {
-          «is_state_good» = good;
-          finished = d .finished;
-          «waiting_count» = d .«waiting_count»;
-          «first_full» = first;
-          view = record { settings = d .settings; position = q; settled = d .settled; count = d .«open_count»; «least_end» = least };
-        }
+        let old : k .view .«least_end» ≡ leastEnd (opens movedOn) = ap (λ (y : Summary). y .view .«least_end») is ∙ least-there in
+        as-seen d movedOn is refl refl refl refl (sym moved-good) (sym (none-full q (opens movedOn) (omega arith) ∙ moved-many)) old
 
-        three : (b c : Bool) (i j m n : ℕ) → b ≡ c → i ≡ j → m ≡ n → with-them b i m ≡ with-them c j n
-        three b c i j m n p r t = rw (p, r, t)
+    -- and where the top master alone is full
+    pub moved-full : {k : Summary} → k ≡ summary d → {o : ℕ} → Around o d → q < o → k .view .«least_end» ≤ q → (top : ℕ) → top ≡ min (d .«open_count» - 1) (mostOpen - 1)
+        → seenAs k q (d .«open_count») top (k .view .«least_end») ≡ summary movedOn
+    unfolding counted withOpen withNotes
+    moved-full {k} is {o} r h end top place =
+        let old : k .view .«least_end» ≡ leastEnd (opens movedOn) = ap (λ (y : Summary). y .view .«least_end») is ∙ least-there in
+        let some : 0 < d .«open_count» = r .some (omega arith) in
+        let last : d .«open_count» - 1 ≡ top = omega arith in
+        let front : o ≡ leastEnd (take top (opens movedOn)) = moved-around r .least (omega arith) ∙ ap (λ (i : ℕ). leastEnd (take i (opens movedOn))) last in
+        as-seen d movedOn is refl refl refl refl (sym moved-good) (sym (top-full q (opens movedOn) top (moved-many ∙ omega arith) (omega arith) (omega arith) (omega arith))) old
 
     -- the Ends that wait are good there, with a master more too
     pub moved-ends : true ≡ every (goodEnd (movedOn .position)) (waits movedOn)
@@ -236,6 +251,37 @@ module _ (d : TagDecoder) (a : Arrays d) (few : d .«open_count» ≤ mostOpen) 
       let e : d .«open_count» + 1 - 1 ≡ d .«open_count» = omega arith in
       ap (λ (i : ℕ). getD (set (countedLast (d .«open_count») (d .«open»)) (d .«open_count») m) i noTag) e
       ∙ getD-set-same (countedLast (d .«open_count») (d .«open»)) (d .«open_count») m noTag (omega arith)
+
+-- the top master closes
+module _ (d : TagDecoder) (a : Arrays d) (few : d .«open_count» ≤ mostOpen) (c : ℕ) (one : c + 1 ≡ d .«open_count») where
+  closed-are : opens (closedTo d c) ≡ take c (opens d)
+  closed-are = closed-opens d c (omega arith) (omega (arith, a .masters))
+
+  closed-many : length (opens (closedTo d c)) ≡ c
+  closed-many = ap length closed-are ∙ length-take-le c (opens d) (omega (arith, opens-length d a few))
+
+  -- what is seen of the record then, before the least end of the masters around it
+  closed-seen : GoodState d → d .«waiting_count» ≡ 0 → {k : Summary} → k ≡ summary d → {o : ℕ} → Around o d → d .position < o
+      → seenAs k (d .position) c c o ≡ summary (closedTo d c)
+  unfolding closedTo withOpen withWaiting
+  closed-seen g none is {o} r h =
+      let last : d .«open_count» - 1 ≡ c = omega arith in
+      let least : o ≡ leastEnd (opens (closedTo d c)) = r .least (omega arith) ∙ ap (λ (i : ℕ). leastEnd (take i (opens d))) last ∙ ap leastEnd (sym closed-are) in
+      as-seen d (closedTo d c) is refl refl refl (omega arith) (sym (is-good-state (closedTo d c) (closed-good d g a c (omega arith))))
+      (sym (none-full (d .position) (opens (closedTo d c)) (omega arith) ∙ closed-many)) least
+
+  -- the words in front show the masters that are left
+  closed-shown : {ids : List ℕ} {knowns : List Bool} → Shown ids knowns (min (d .«open_count») mostOpen) (opens d)
+      → Shown ids knowns (min c mostOpen) (opens (closedTo d c))
+  closed-shown s =
+      let n : min c mostOpen ≡ c = omega arith in
+      record {
+        shown-ids = record { many = closed-many ∙ sym n; ids-are = λ i h. s .shown-ids .ids-are i (omega arith) ∙ sym (ap (λ (m : OpenTag). m .id) (at i (omega arith))) };
+        knowns-are = λ i h. s .knowns-are i (omega arith) ∙ sym (ap (λ (m : OpenTag). m .known) (at i (omega arith)));
+      }
+    where
+      at : (i : ℕ) → i < c → getD (opens (closedTo d c)) i noTag ≡ getD (opens d) i noTag
+      at i h = ap (λ (l : List OpenTag). getD l i noTag) closed-are ∙ getD-take c (opens d) i noTag h
 
 -- ---- the invariant
 
@@ -341,6 +387,24 @@ module _ {es ps s l₀ : List ℕ} {d₀ : TagDecoder} {n₀ at₀ at : ℕ} {l 
         → Going es ps s l₀ d₀ n₀ at₀ at l′ (n + 1) d′ ids′ knowns′ k′
     end-goes-on {d′ = d′} e none look = goes-anew look (g .within) (put-long (endWords z) put) (rw e (closed-arrays d (g .arrays) c)) (sym (none-waits d′ none)) (end-passes e)
 
+    -- before the least end of the masters around the one that closes
+    pub end-goes-within : {d′ : TagDecoder} → d′ ≡ closedTo d c → c + 1 ≡ d .«open_count» → d .«waiting_count» ≡ 0 → k .«is_state_good» ≡ true → {o : ℕ} → Around o d → d .position < o
+        → {k′ : Summary} → k′ ≡ seenAs k (d .position) c c o → Going es ps s l₀ d₀ n₀ at₀ at l′ (n + 1) d′ ids knowns k′
+    unfolding closedTo withOpen withWaiting
+    end-goes-within e one none f r h now =
+        let few = end-fits d (length left) c (going-applies (act.Close c) is) .1 in
+        rw e
+        (record {
+          within = g .within;
+          as-long = put-long (endWords z) put;
+          ids-long = g .ids-long;
+          knowns-long = g .knowns-long;
+          arrays = closed-arrays d (g .arrays) c;
+          seen = now ∙ closed-seen d (g .arrays) few c one (going-good f) none (g .seen) r h;
+          shown = closed-shown d (g .arrays) few c one (g .shown);
+          passes = end-passes refl;
+        })
+
   module _ (h : n < length l₀ / eventSize) (f : k .«is_state_good» ≡ true) (x m : ℕ) (some : 0 < m) where
     abbrev to : ℕ
     to = d .position + m
@@ -355,9 +419,9 @@ module _ {es ps s l₀ : List ℕ} {d₀ : TagDecoder} {n₀ at₀ at : ℕ} {l 
       unfolding eventWords
       data-passes e = rw e (passes-event h _ data-decoded (event.Data x (d .position) v) refl put)
 
-      pub data-goes-on : {d′ : TagDecoder} → d′ ≡ counted (atPosition d to) → to < k .view .«least_end» → {k′ : Summary} → k′ ≡ summaryAt k to
+      data-goes-seen : {d′ : TagDecoder} → d′ ≡ counted (atPosition d to) → {k′ : Summary} → k′ ≡ summary (counted (atPosition d to))
           → Going es ps s l₀ d₀ n₀ at₀ (at + m) l′ (n + 1) d′ ids knowns k′
-      data-goes-on e before now =
+      data-goes-seen e now =
           let w = data-fits d (length left) x v m (going-applies (act.Data x v m) is) in
           let few = w .2 .0 in
           let b = length-drop at s in
@@ -368,10 +432,24 @@ module _ {es ps s l₀ : List ℕ} {d₀ : TagDecoder} {n₀ at₀ at : ℕ} {l 
             ids-long = g .ids-long;
             knowns-long = g .knowns-long;
             arrays = moved-arrays d (g .arrays) few to;
-            seen = now ∙ moved-seen d (g .arrays) few to (going-good f) (omega arith) (omega arith) (g .seen) before;
+            seen = now;
             shown = moved-shown d (g .arrays) few to (g .shown);
             passes = data-passes refl;
           })
+
+      pub data-goes-on : {d′ : TagDecoder} → d′ ≡ counted (atPosition d to) → to < k .view .«least_end» → {k′ : Summary}
+          → k′ ≡ seenAs k to (d .«open_count») (d .«open_count») (k .view .«least_end») → Going es ps s l₀ d₀ n₀ at₀ (at + m) l′ (n + 1) d′ ids knowns k′
+      data-goes-on e before now =
+          let w = data-fits d (length left) x v m (going-applies (act.Data x v m) is) in
+          data-goes-seen e (now ∙ moved-seen d (g .arrays) (w .2 .0) to (going-good f) (omega arith) (omega arith) (g .seen) before)
+
+      -- at the end of the top master alone
+      pub data-goes-full : {d′ : TagDecoder} → d′ ≡ counted (atPosition d to) → {o : ℕ} → Around o d → to < o → k .view .«least_end» ≤ to
+          → (top : ℕ) → top ≡ min (d .«open_count» - 1) (mostOpen - 1) → {k′ : Summary} → k′ ≡ seenAs k to (d .«open_count») top (k .view .«least_end»)
+          → Going es ps s l₀ d₀ n₀ at₀ (at + m) l′ (n + 1) d′ ids knowns k′
+      data-goes-full e r before end top place now =
+          let w = data-fits d (length left) x v m (going-applies (act.Data x v m) is) in
+          data-goes-seen e (now ∙ moved-full d (g .arrays) (w .2 .0) to (going-good f) (omega arith) (omega arith) (g .seen) r before end top place)
 
       -- at the end of a master it is seen anew
       pub data-goes-anew : {d′ : TagDecoder} → d′ ≡ counted (atPosition d to) → {ids′ : List ℕ} {knowns′ : List Bool} {k′ : Summary} → Anew ids ids′ knowns knowns′ d′ k′

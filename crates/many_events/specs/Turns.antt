@@ -71,18 +71,13 @@ quickNoted (Settle path) a = quick.Slow
 unfoldable pub quickOf : Bool → Decision → Quick
 quickOf good a = cond good (quickNoted (a .note) (a .action)) quick.Slow
 
--- what was seen of a good record, at a later position before which no master ends
-abbrev pub summaryAt : Summary → ℕ → Summary
-summaryAt k p = record {
+-- what was seen of a good record, where it is still good, at this position, with so many masters, the outermost of
+-- them that is full, and the least of their ends
+abbrev pub seenAs : Summary → ℕ → ℕ → ℕ → ℕ → Summary
+seenAs k p count first least = record {
   «is_state_good» = true;
   finished = k .finished;
   «waiting_count» = k .«waiting_count»;
-  «first_full» = k .view .count;
-  view = record {
-    settings = k .view .settings;
-    position = p;
-    settled = k .view .settled;
-    count = k .view .count;
-    «least_end» = k .view .«least_end»;
-  };
+  «first_full» = first;
+  view = record { settings = k .view .settings; position = p; settled = k .view .settled; count = count; «least_end» = least };
 }
