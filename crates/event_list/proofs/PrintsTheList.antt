@@ -32,9 +32,10 @@ use Rattle.event_list.specs.declared.types.Listing.{Listing}
 use Rattle.event_list.specs.declared.types.Next.{Next}
 use Rattle.event_list.specs.declared.types.Next.the-variants.{Line, Last, Read}
 use Rattle.tag_decoder_laws.proofs.AppendedBytes.{octets-front, need-more-takes-none}
-use Rattle.event_list.proofs.Ending.{weight, call-nearer, more-light}
+use Rattle.event_list.proofs.Ending.{call-nearer}
 use Rattle.event_list.proofs.Filling.{length-unread, unread-fits, unread-after, unread-front, size-is, rest-is, pieces-some, unread-is, decoder-is, ended-only, read-nearer}
 use Rattle.tag_decoder_laws.proofs.Finishing.{finished-kept}
+use Rattle.tag_decoder_laws.proofs.Nearer.{weight, more-light}
 use Rattle.event_list.proofs.Taking.{call-takes, over-asks-no-more, reads-on}
 use Rattle.event_list.proofs.Views.{seen-all, view-answers, full-answers, asked-answers}
 

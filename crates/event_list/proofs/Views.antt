@@ -30,12 +30,12 @@ unfolding nextAnswer
 seen-all size d s h = rw (lt-ltb _ _ h)
 
 -- it does not
-seen-front : (size : ℕ) (d : TagDecoder) (s : List ℕ) → size ≤ length s → nextAnswer size d s ≡ decode benchEntries benchParts d (take size s)
+pub seen-front : (size : ℕ) (d : TagDecoder) (s : List ℕ) → size ≤ length s → nextAnswer size d s ≡ decode benchEntries benchParts d (take size s)
 unfolding nextAnswer
 seen-front size d s h = rw (le-ltb _ _ h)
 
 -- the end of input goes by the answer of `decode` alone
-eof-same : (d e : TagDecoder) (s : List ℕ) → decode benchEntries benchParts d s ≡ decode benchEntries benchParts e s
+pub eof-same : (d e : TagDecoder) (s : List ℕ) → decode benchEntries benchParts d s ≡ decode benchEntries benchParts e s
     → decodeEof benchEntries benchParts d s ≡ decodeEof benchEntries benchParts e s
 unfolding decodeEof
 eof-same d e s q = ap (λ (r : Decoded). endedOr (tableOf benchEntries benchParts) s r (r .answer)) q

@@ -48,7 +48,8 @@ module _ (es ps : List ℕ) (d : TagDecoder) (s u : List ℕ) (byte : Octets (s 
       } in
       ap (λ (a : Decision). a .note) (settling-decides es ps d (s ++ u) path longer)
 
-  again : (n : Note) → decide es ps d s .note ≡ n → decode es ps (noted ps d n) (s ++ u) ≡ decode es ps d (s ++ u)
+  -- the record with the note that a call makes answers a call on more bytes as the record without it
+  pub again : (n : Note) → decide es ps d s .note ≡ n → decode es ps (noted ps d n) (s ++ u) ≡ decode es ps d (s ++ u)
   unfolding noted
   again NoNote q = refl
   again (Settle path) q = settled-once es ps d (s ++ u) byte (Settle path) (note-local path q)

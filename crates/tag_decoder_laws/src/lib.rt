@@ -1,2 +1,2 @@
-// What holds of the decoder's calls whoever makes them: what appended bytes change, what settles, what is finished.
-// There is no code of its own here.
+// What holds of the decoder's calls whoever makes them: what appended bytes change, what settles, what is finished, and
+// that every event brings the end nearer. There is no code of its own here.

@@ -24,9 +24,9 @@ use Rattle.decoder_rules.specs.declared.types.Decoded.{Decoded}
 use Rattle.decoder_rules.specs.declared.types.TagDecoder.{TagDecoder}
 use Rattle.tag_decoder.proofs.CallLaws.{eof-facts}
 use Rattle.tag_decoder_laws.proofs.Finishing.{eof-asks-no-more}
+use Rattle.tag_decoder_laws.proofs.Nearer.{weight, eof-event-nearer}
 use Rattle.event_list.specs.Reading.{begun}
 use Rattle.event_list.specs.Whole.{Answered, answeredBy}
-use Rattle.event_list.proofs.Ending.{weight, eof-event-nearer}
 use Rattle.whole.specs.Checking.{atStart, seenAfter, finishedAs, ifFront, verdictAt, verdictAfter, verdictOf}
 use Rattle.whole.specs.Night.{isEvent, readFrom, answersTo, IsOneWhole}
 use Rattle.whole.specs.declared.types.Seen.{Seen}

@@ -31,9 +31,10 @@ use Rattle.decoder_rules.proofs.MoveLaws.{withNote}
 use Rattle.tag_decoder.proofs.CallLaws.{eof-facts}
 use Rattle.tag_decoder_laws.proofs.AppendedBytes.{octets-front, decode-local}
 use Rattle.tag_decoder_laws.proofs.Finishing.{eof-asks-no-more, eof-as-decoded}
+use Rattle.tag_decoder_laws.proofs.Nearer.{weight}
 use Rattle.event_list.specs.Reading.{begun, called}
 use Rattle.event_list.specs.Whole.{nextAnswer, Answered, answeredBy, Answers, goes-on, ends, AnswersTo}
-use Rattle.event_list.proofs.Ending.{weight, call-nearer}
+use Rattle.event_list.proofs.Ending.{call-nearer}
 use Rattle.event_list.proofs.Views.{seen-all}
 use Rattle.whole.specs.Night.{isEvent, readFrom, answersTo, isRootAt0, hasFront, hasStart, startsLeft, allStarted, isFinish, finishes, isFeed, feeds, noneAsks}
 use Rattle.whole.proofs.Turns.{unended, Balance, balanced-noted, eof-balanced, eof-settled, finish-no-byte, finished-no-byte, start-settles}
@@ -194,7 +195,7 @@ module _ (es ps : List ℕ) where
 
 -- the next answer is that of the end of input on all that is left, unless the element is larger than the buffer
 module _ (size : ℕ) (some : 0 < size) where
-  next-is-eof : (d : TagDecoder) (s : List ℕ) → Octets s → (d .finished ≡ true → length s ≡ 0) → d .position + length s ≤ 2 ^ 62 → needsMore (nextAnswer size d s .answer) ≡ false
+  pub next-is-eof : (d : TagDecoder) (s : List ℕ) → Octets s → (d .finished ≡ true → length s ≡ 0) → d .position + length s ≤ 2 ^ 62 → needsMore (nextAnswer size d s .answer) ≡ false
       → nextAnswer size d s ≡ decodeEof benchEntries benchParts d s
   next-is-eof d s byte fin near quiet = go (decLe size (length s))
     where

@@ -10,14 +10,15 @@ use Rattle.tools.proofs.BigEndian.{octets-beBytes}
 use Rattle.table.specs.BenchTable.{benchEntries, benchParts}
 use Rattle.tag_parse.specs.declared.types.TagValue.the-variants.{UnsignedInt, Utf8}
 use Rattle.decoder_rules.specs.Record.{fresh}
-use Rattle.decoder_rules.specs.Run.{Told, event, need-more, decodeCalls}
+use Rattle.decoder_rules.specs.Run.{Told, event, need-more, toldBy, decodeCalls}
 use Rattle.decoder_rules.specs.declared.types.Event.the-variants.{Start, End, Data}
 use Rattle.decoder_rules.proofs.Computing.{rulesCompute}
+use Rattle.joining.specs.Joining.{Outcome, eventsOf, runFor, run, inPieces}
 use Rattle.tag_writer.specs.Items.{marksOf, runOf}
 use Rattle.tag_writer.proofs.Computing.{writerComputes}
 use Rattle.whole.specs.Night.{IsWhole, IsOneWhole}
 use Rattle.written.specs.Cut.{written, isOneRoot, NoCutLooksWhole}
-use Rattle.written.specs.Pieces.{joined, pieceCalls}
+use Rattle.written.specs.Pieces.{lentInPieces}
 use Rattle.written.specs.Whole.{mastersIn, mastersInRoots}
 use Rattle.written.proofs.Cut.{written-cut}
 use Rattle.written.proofs.Whole.{written-whole, written-one-whole}
@@ -55,6 +56,10 @@ told =
     ∷ need-more 2
     ∷ []
 
+-- what a run tells
+abbrev toldIn : Outcome → List Told
+toldIn o = map event (eventsOf o) ++ (toldBy (o .last) ∷ [])
+
 -- a Session with a Void of 2 bytes and two Feeds in it, the second with a Void too
 abbrev withVoids : List ℕ
 withVoids =
@@ -83,12 +88,12 @@ pub record Cases : Type 0 where
   pub feeds : mastersInRoots (runOf (marksOf vals items)) ≡ 1
   pub feeds-beside-a-void : mastersInRoots (runOf (marksOf vals withVoids)) ≡ 2
   pub at-once : map (λ c. c .told) (decodeCalls 7 benchEntries benchParts fresh d1 .calls) ≡ told
-  pub in-four : map (λ c. c .told) (pieceCalls benchEntries benchParts afterTwo 7 fresh (0x4E ∷ 0x01 ∷ []) .calls) ≡ told
-  pub byte-by-byte : map (λ c. c .told) (pieceCalls benchEntries benchParts (bytewise d1) 7 fresh [] .calls) ≡ told
+  pub in-four : toldIn (lentInPieces false benchEntries benchParts (0x4E ∷ 0x01 ∷ []) afterTwo) ≡ told
+  pub byte-by-byte : toldIn (lentInPieces false benchEntries benchParts [] (bytewise d1)) ≡ told
 
 -- they hold
 pub cases : Cases
-unfolding rulesCompute writerComputes pieceCalls joined bytewise mastersIn mastersInRoots
+unfolding rulesCompute writerComputes runFor run inPieces bytewise mastersIn mastersInRoots
 cases = record { is-d1 = refl; one-root = refl; two-roots = refl; no-master = refl; feeds = refl; feeds-beside-a-void = refl; at-once = refl; in-four = refl; byte-by-byte = refl }
 
 -- so no cut of D1 looks whole

@@ -1,31 +1,33 @@
--- In whatever pieces bytes come, the calls of `decode` answer what they answer where all is lent at once: an answer that
--- is no need more stays when bytes are appended, and a call that needs more changes nothing for the next. So a written
--- document is read back in any pieces. Assumes nothing.
-use Prim.Native.Nat.{ℕ, zero, suc, _+_, _≤_}
-use mathlib.Core.Path.{_≡_, refl, sym, ap, subst, _∙_}
-use mathlib.Core.Bool.{Bool, true, false, false≢true, true≢false}
-use mathlib.Core.List.{List, [], _∷_, _++_, append-assoc, append-nil}
+-- A written document is read back in any pieces: where it is lent at once the calls answer as it says, so a run on it
+-- does, and a run on any pieces of it is that run (joining's `any-pieces`). Assumes nothing.
+use Prim.Native.Nat.{ℕ, suc, _+_, _≤_}
+use mathlib.Core.Path.{_≡_, refl, sym, ap, ap₂, subst, _∙_}
+use mathlib.Core.Bool.{Bool, true, false}
+use mathlib.Core.List.{List, [], _∷_, _++_, map}
 use native.Mathlib.Omega.{arith}
-use lib.ListN.{length, drop, length-append, length-drop}
-use lib.Seq.{drop-append-le}
+use lib.ListN.{length, drop}
 use Rattle.basics.specs.Lists.{every}
+use Rattle.basics.proofs.Bools.{absurd-eq}
 use Rattle.tools.specs.Bytes.{Octets}
 use Rattle.table.specs.Table.{tableOf}
 use Rattle.tag_parse.proofs.Cases.{octets-drop}
-use Rattle.decoder_rules.specs.Moving.{needsMore, decode}
+use Rattle.decoder_rules.specs.Deciding.{leastHeader}
+use Rattle.decoder_rules.specs.EndOfInput.{decodeEof}
+use Rattle.decoder_rules.specs.Moving.{decode}
 use Rattle.decoder_rules.specs.Record.{farthest, fresh, withSettings}
-use Rattle.decoder_rules.specs.Run.{Call, Calls, toldBy, before, last, goesOn, from, inARow, decodeCalls}
+use Rattle.decoder_rules.specs.Run.{Told, event, need-more, Call, Calls, toldBy, goesOn, inARow, decodeCalls}
 use Rattle.decoder_rules.specs.Settings.{reading}
 use Rattle.decoder_rules.specs.declared.types.Answer.{Answer}
 use Rattle.decoder_rules.specs.declared.types.Answer.the-variants as answer
-use Rattle.decoder_rules.specs.declared.types.Decoded.{Decoded}
+use Rattle.decoder_rules.specs.declared.types.Event.{Event}
 use Rattle.decoder_rules.specs.declared.types.TagDecoder.{TagDecoder}
-use Rattle.decoder_rules.proofs.MoveLaws.{decode-finished, decode-position}
-use Rattle.tag_decoder.proofs.CallLaws.{takes-within}
-use Rattle.tag_decoder_laws.proofs.AppendedBytes.{decode-local, octets-front, need-more-changes-nothing, need-more-takes-none}
+use Rattle.decoder_rules.proofs.MoveLaws.{isNoEvent}
+use Rattle.joining.specs.Joining.{Outcome, eventsOf, run, joined}
+use Rattle.joining.proofs.Joining.{any-pieces}
+use Rattle.joining.proofs.Runs.{run-stops, run-event}
 use Rattle.tag_writer.specs.Document.{Run}
 use Rattle.tag_writer.specs.Items.{marksOf, runOf}
-use Rattle.tag_writer.specs.ReadBack.{isTaken}
+use Rattle.tag_writer.specs.ReadBack.{said, saidCounts, isTaken}
 use Rattle.tag_writer.specs.Write.{write}
 use Rattle.tag_writer.specs.declared.types.Wrote.the-variants.{Written}
 use Rattle.tag_writer.proofs.InRange.{all-taken}
@@ -33,81 +35,78 @@ use Rattle.tag_writer.proofs.Lengths.{run-length}
 use Rattle.tag_writer.proofs.Marks.{matched-marks, size-run}
 use Rattle.tag_writer.proofs.RoundTrip.{is-written, read-back-in}
 use Rattle.written.specs.Cut.{written}
-use Rattle.written.specs.Pieces.{joined, goesOnWith, pieceCalls, IsReadInPieces}
+use Rattle.written.specs.Pieces.{lentInPieces, IsReadInPieces}
 use Rattle.written.proofs.Cut.{written-bytes}
 use Rattle.written.proofs.Octets.{written-octets}
 
--- ---- one call
+-- ---- calls that tell events and then need more are a run
 
-module _ (others others' more : TagDecoder → List ℕ → Calls) (c : Call) (d : TagDecoder) (s s' p j : List ℕ) where
-  -- an answer that is no need more goes on as with all bytes
-  same-step : (a : Answer) → needsMore a ≡ false → others d s ≡ others' d s' → s ++ (p ++ j) ≡ s' → goesOnWith others more a c d s p j ≡ goesOn others' a c d s'
-  same-step (answer.Event e) q h k = ap (before c) h
-  same-step (answer.NeedMore missing) q h k = absurd (true≢false q)
-  same-step answer.Finished q h k = ap (last c d) k
-  same-step (answer.Refused r) q h k = ap (last c d) k
+-- what calls tell, one after another
+abbrev tells : Calls → List Told
+tells c = map (λ (x : Call). x .told) (c .calls)
 
-  -- need more goes on with the next piece
-  more-step : (a : Answer) → needsMore a ≡ true → goesOnWith others more a c d s p j ≡ more d (s ++ p)
-  more-step (answer.Event e) q = absurd (false≢true q)
-  more-step (answer.NeedMore missing) q = refl
-  more-step answer.Finished q = absurd (false≢true q)
-  more-step (answer.Refused r) q = absurd (false≢true q)
+-- a run gives these events, then needs m more, and leaves what the calls leave
+record Gives (events : List Event) (m : ℕ) (c : Calls) (o : Outcome) : Type 0 where
+  handed : eventsOf o ≡ events
+  asks : o .last ≡ answer.NeedMore m
+  left : o .state ≡ c .left
+  rest : o .rest ≡ c .rest
 
--- ---- any calls
+module _ (es ps : List ℕ) (m : ℕ) where
+  -- where calls tell these events and then need m more, a run gives them
+  abbrev Alike : List Event → TagDecoder → List ℕ → Type 0
+  Alike events d s = tells (decodeCalls (suc (length events)) es ps d s) ≡ map event events ++ (need-more m ∷ []) → Gives events m (decodeCalls (suc (length events)) es ps d s) (run es ps d s)
 
-module _ (es ps : List ℕ) where
-  -- calls that begin with the same call
-  same-calls : (n : ℕ) (d e : TagDecoder) (s : List ℕ) → decode es ps d s ≡ decode es ps e s → decodeCalls (suc n) es ps d s ≡ decodeCalls (suc n) es ps e s
-  unfolding inARow
-  same-calls n d e s q = ap (λ (r : Decoded). from (inARow (decode es ps) n) r s) q
+  module _ (d : TagDecoder) (s : List ℕ) where
+    -- n calls after the first, by its answer
+    abbrev fromFirst : ℕ → Answer → Calls
+    fromFirst n a = goesOn (inARow (decode es ps) n) a (record { told = toldBy a; taken = decode es ps d s .taken }) (decode es ps d s .state) (drop (decode es ps d s .taken) s)
 
-  -- with these pieces to come at most n calls are those that are made where all is lent at once: what each told and
-  -- took, and what they leave
-  abbrev pub Alike : List (List ℕ) → ℕ → Type 0
-  Alike later n = (d : TagDecoder) (s : List ℕ) → Octets (s ++ joined later) → d .finished ≡ false → d .position + length (s ++ joined later) ≤ farthest
-      → pieceCalls es ps later n d s ≡ decodeCalls n es ps d (s ++ joined later)
+    -- the call that needs more is all of the run
+    asks-alike : Alike [] d s
+    unfolding inARow
+    asks-alike = go (decode es ps d s .answer) refl
+      where
+        go : (a : Answer) → decode es ps d s .answer ≡ a → tells (fromFirst 0 a) ≡ need-more m ∷ [] → Gives [] m (fromFirst 0 a) (run es ps d s)
+        go (answer.Event e) q t = let z : _≡_ {A = ℕ} 0 1 = cc in absurd-eq z
+        go (answer.NeedMore missing) q t =
+            let stops = run-stops es ps d s (ap isNoEvent q) in
+            let so-many : missing ≡ m = cc in
+            record {
+              handed = ap (λ (o : Outcome). eventsOf o) stops;
+              asks = ap (λ (o : Outcome). o .last) stops ∙ q ∙ ap answer.NeedMore so-many;
+              left = ap (λ (o : Outcome). o .state) stops;
+              rest = ap (λ (o : Outcome). o .rest) stops;
+            }
+        go answer.Finished q t = let z : _≡_ {A = ℕ} 0 1 = cc in absurd-eq z
+        go (answer.Refused x) q t = let z : _≡_ {A = ℕ} 0 1 = cc in absurd-eq z
 
-  piece : (p : List ℕ) (later : List (List ℕ)) (n : ℕ) → Alike (p ∷ later) n → Alike later (suc n) → Alike (p ∷ later) (suc n)
-  unfolding pieceCalls joined inARow
-  piece p later n same-piece next-piece d s byte open-still near = go (needsMore (decode es ps d s .answer)) refl
-    where
-      go : (b : Bool) → needsMore (decode es ps d s .answer) ≡ b → pieceCalls es ps (p ∷ later) (suc n) d s ≡ decodeCalls (suc n) es ps d (s ++ (p ++ joined later))
-      go false q =
-          let r = decode es ps d s in
-          let j = p ++ joined later in
-          let front : Octets s = octets-front s j byte in
-          let taken : r .taken ≤ length s = takes-within es ps d s front in
-          let local : decode es ps d (s ++ j) ≡ r = decode-local es ps d s j (front 0) open-still near q in
-          let left : drop (r .taken) (s ++ j) ≡ drop (r .taken) s ++ j = drop-append-le (r .taken) s j taken in
-          let bytes : Octets (drop (r .taken) s ++ j) = subst Octets left (octets-drop (r .taken) (s ++ j) byte) in
-          let near-after : r .state .position + length (drop (r .taken) s ++ j) ≤ farthest =
-          omega (arith, near, taken, decode-position es ps d s, length-append (drop (r .taken) s) j, length-drop (r .taken) s, length-append s j) in
-          let rec = same-piece (r .state) (drop (r .taken) s) bytes (decode-finished es ps d s ∙ open-still) near-after in
-          let c : Call = record { told = toldBy (r .answer); taken = r .taken } in
-          same-step (pieceCalls es ps (p ∷ later) n) (inARow (decode es ps) n) (pieceCalls es ps later (suc n)) c (r .state) (drop (r .taken) s) (drop (r .taken) (s ++ j)) p (joined later) (r .answer) q
-          (rec ∙ ap (decodeCalls n es ps (r .state)) (sym left)) (sym left)
-          ∙ ap (λ (x : Decoded). from (inARow (decode es ps) n) x (s ++ j)) (sym local)
-      go true q =
-          let r = decode es ps d s in
-          let j = p ++ joined later in
-          let none : r .taken ≡ 0 = need-more-takes-none es ps d s q in
-          let all : drop (r .taken) s ≡ s = ap (λ (k : ℕ). drop k s) none in
-          let assoc : (drop (r .taken) s ++ p) ++ joined later ≡ s ++ j = append-assoc (drop (r .taken) s) p (joined later) ∙ ap (λ (l : List ℕ). l ++ j) all in
-          let bytes : Octets ((drop (r .taken) s ++ p) ++ joined later) = subst Octets (sym assoc) byte in
-          let near-after : r .state .position + length ((drop (r .taken) s ++ p) ++ joined later) ≤ farthest = omega (arith, near, none, decode-position es ps d s, ap length assoc) in
-          let rec = next-piece (r .state) (drop (r .taken) s ++ p) bytes (decode-finished es ps d s ∙ open-still) near-after in
-          let c : Call = record { told = toldBy (r .answer); taken = r .taken } in
-          more-step (pieceCalls es ps (p ∷ later) n) (inARow (decode es ps) n) (pieceCalls es ps later (suc n)) c (r .state) (drop (r .taken) s) (drop (r .taken) (s ++ j)) p (joined later) (r .answer) q
-          ∙ rec ∙ ap (decodeCalls (suc n) es ps (r .state)) assoc
-          ∙ same-calls n (r .state) d (s ++ j) (need-more-changes-nothing es ps d s j byte open-still near q)
+    -- an event comes first, where it is so of what its call leaves
+    event-alike : (x : Event) (events : List Event) → Octets s → Alike events (decode es ps d s .state) (drop (decode es ps d s .taken) s) → Alike (x ∷ events) d s
+    unfolding inARow
+    event-alike x events byte on = go (decode es ps d s .answer) refl
+      where
+        go : (a : Answer) → decode es ps d s .answer ≡ a → tells (fromFirst (suc (length events)) a) ≡ event x ∷ (map event events ++ (need-more m ∷ []))
+            → Gives (x ∷ events) m (fromFirst (suc (length events)) a) (run es ps d s)
+        go (answer.Event e) q t =
+            let goes = run-event es ps d s byte q in
+            let same : e ≡ x = cc in
+            let later = on (cc) in
+            record {
+              handed = ap (λ (o : Outcome). eventsOf o) goes ∙ ap₂ (λ (y : Event) (l : List Event). y ∷ l) same (later .handed);
+              asks = ap (λ (o : Outcome). o .last) goes ∙ later .asks;
+              left = ap (λ (o : Outcome). o .state) goes ∙ later .left;
+              rest = ap (λ (o : Outcome). o .rest) goes ∙ later .rest;
+            }
+        go (answer.NeedMore missing) q t = let z : _≡_ {A = ℕ} 0 1 = cc in absurd-eq z
+        go answer.Finished q t = let z : _≡_ {A = ℕ} 0 1 = cc in absurd-eq z
+        go (answer.Refused y) q t = let z : _≡_ {A = ℕ} 0 1 = cc in absurd-eq z
 
-  -- so are any
-  pub in-pieces : (later : List (List ℕ)) (n : ℕ) → Alike later n
-  unfolding pieceCalls joined inARow
-  in-pieces [] n d s byte open-still near = ap (decodeCalls n es ps d) (sym (append-nil s))
-  in-pieces (p ∷ later) zero d s byte open-still near = refl
-  in-pieces (p ∷ later) (suc n) d s byte open-still near = piece p later n (in-pieces (p ∷ later) n) (in-pieces later (suc n)) d s byte open-still near
+  calls-alike : (events : List Event) (d : TagDecoder) (s : List ℕ) → Octets s → Alike events d s
+  calls-alike [] d s byte = asks-alike d s
+  calls-alike (x ∷ events) d s byte =
+      let r = decode es ps d s in
+      event-alike d s x events byte (calls-alike events (r .state) (drop (r .taken) s) (octets-drop (r .taken) s byte))
 
 -- ---- what the writer writes
 
@@ -122,26 +121,28 @@ module _ (es ps items vals out : List ℕ) (n : ℕ) (e : write es ps items vals
       omega (arith, ap length (written-bytes es ps items vals out n e), run-length doc, size-run (tableOf es ps) [] doc (w .good), w .few)
 
   module _ (first : List ℕ) (later : List (List ℕ)) (is : first ++ joined later ≡ written es ps items vals out n) (octets : Octets vals) where
-    -- in any pieces the calls from a fresh decoder, in either mode, are those that are made where all is lent at once
-    pub written-calls-alike : (strict : Bool) (k : ℕ) → pieceCalls es ps later k (reading fresh strict) first ≡ decodeCalls k es ps (reading fresh strict) (written es ps items vals out n)
+    -- what a fresh decoder gives in any pieces, in either mode, is one run on all of it
+    pub written-one-run : (strict : Bool) → lentInPieces strict es ps first later ≡ run es ps (reading fresh strict) (written es ps items vals out n)
     unfolding withSettings
-    written-calls-alike strict k =
+    written-one-run strict =
         let byte : Octets (first ++ joined later) = subst Octets (sym is) (written-octets es ps items vals out n e octets) in
         let near : 0 + length (first ++ joined later) ≤ farthest = omega (arith, ap length is, written-near) in
-        in-pieces es ps later k (reading fresh strict) first byte refl near ∙ ap (decodeCalls k es ps (reading fresh strict)) is
+        any-pieces es ps (reading fresh strict) first later byte refl near ∙ ap (run es ps (reading fresh strict)) is
 
     -- so it is read back in any pieces, in either mode where its items are taken so
     pub written-in-pieces-in : (strict : Bool) → every (isTaken strict) (marksOf vals items) ≡ true → IsReadInPieces strict es ps first later (marksOf vals items)
     written-in-pieces-in strict taken =
+        let w = written es ps items vals out n in
         let r = read-back-in es ps items vals out strict octets n e taken in
-        let alike = written-calls-alike strict (suc (length (r .events))) in
+        let one = written-one-run strict in
+        let gives = calls-alike es ps leastHeader (r .events) (reading fresh strict) w (written-octets es ps items vals out n e octets) (r .told) in
+        let handed : eventsOf (lentInPieces strict es ps first later) ≡ r .events = ap (λ (o : Outcome). eventsOf o) one ∙ gives .handed in
         record {
-          events = r .events;
-          told = rw alike (r .told);
-          same = rw is (r .same);
-          counts = r .counts;
-          all-read = rw alike (r .all-read);
-          finish = rw alike (r .finish);
+          same = ap₂ (λ (s : List ℕ) (l : List Event). map (said s) l) is handed ∙ r .same;
+          counts = ap saidCounts handed ∙ r .counts;
+          needs-more = ap (λ (o : Outcome). o .last) one ∙ gives .asks;
+          all-read = ap (λ (o : Outcome). o .rest) one ∙ gives .rest ∙ r .all-read;
+          finish = ap (λ (o : Outcome). decodeEof es ps (o .state) [] .answer) one ∙ ap (λ (d : TagDecoder). decodeEof es ps d [] .answer) (gives .left) ∙ r .finish;
         }
 
     -- as ported, which a fresh decoder is, whatever the items

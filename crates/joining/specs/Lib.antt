@@ -1,0 +1,4 @@
+pub mod Joining
+pub mod Results
+pub mod Words
+pub mod Programs
