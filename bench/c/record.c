@@ -26,14 +26,14 @@ static void show_item(struct session *s, const struct list *list, const uint64_t
     say(s, ":%" PRIu64 ":%" PRIu64, item[3], item[4]);
 }
 
-static void show_list(struct session *s, const char *name, const struct list *list, int children)
+static void show_list(struct session *s, const ebml_decoder *d, const char *name, const struct list *list, int children)
 {
-    const uint64_t count = s->d.words[list->count];
+    const uint64_t count = d->words[list->count];
     say(s, " %s=", name);
     if (count == 0)
         say(s, "-");
     for (size_t i = 0; i < count && i < MOST_OPEN; i++) {
-        const uint64_t *item = s->d.words + list->first + i * list->words;
+        const uint64_t *item = d->words + list->first + i * list->words;
         if (i > 0)
             say(s, ",");
         if (children)
@@ -43,19 +43,19 @@ static void show_list(struct session *s, const char *name, const struct list *li
     }
 }
 
-void record_show(struct session *s)
+void record_show(struct session *s, const ebml_decoder *d)
 {
-    const uint64_t *w = s->d.words;
-    say(s, "st a=%" PRIu64, w[ALLOW] + 2 * w[ALLOW + 1] + 4 * w[ALLOW + 2]);
+    const uint64_t *w = d->words;
+    say(s, " a=%" PRIu64, w[ALLOW] + 2 * w[ALLOW + 1] + 4 * w[ALLOW + 2]);
     if (w[MAX_GIVEN] != 0)
         say(s, " m=%" PRIu64, w[MAX]);
     else
         say(s, " m=-");
     say(s, " p=%" PRIu64 " s=%" PRIu64 " f=%" PRIu64, w[POSITION], w[SETTLED], w[FINISHED]);
-    show_list(s, "O", &open_list, 0);
-    show_list(s, "W", &waiting_list, 0);
-    show_list(s, "C", &open_list, 1);
-    show_list(s, "V", &waiting_list, 1);
+    show_list(s, d, "O", &open_list, 0);
+    show_list(s, d, "W", &waiting_list, 0);
+    show_list(s, d, "C", &open_list, 1);
+    show_list(s, d, "V", &waiting_list, 1);
     say(s, " x=%" PRIu64, w[STRICT]);
 }
 

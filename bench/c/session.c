@@ -2,7 +2,6 @@
 #include "session.h"
 #include <inttypes.h>
 #include <stdarg.h>
-#include <stdio.h>
 #include <stdlib.h>
 
 /* A byte more than a block has; what a block, and an event, hold before a call. */
@@ -153,6 +152,10 @@ static void decode(struct session *s, int eof, const uint8_t *bytes, size_t leng
     memset(&old, OLD, sizeof old);
     e = old;
     run_before(s, eof, bytes, length);
+    if (eof)
+        cuts_close(s);
+    else
+        cuts_before(s, bytes, length);
     const ebml_reply r = (eof ? ebml_decode_eof : ebml_decode)(&s->d, s->entries, s->entries_len, s->parts,
                                                               s->parts_len, bytes, length, &e);
     if (r.events == 1 && r.code == EBML_FULL)
@@ -162,6 +165,7 @@ static void decode(struct session *s, int eof, const uint8_t *bytes, size_t leng
     if (r.events == 0 && memcmp(&e, &old, sizeof e) != 0)
         s->fault = "an event is written where none is handed out";
     run_behind(s, &r, &e);
+    cuts_behind(s, &r);
 }
 
 static int on_bytes(struct session *s, struct text name, struct text value)
@@ -195,6 +199,8 @@ static int lend(struct session *s, struct text lists)
     s->parts_len = m;
     const uint64_t checked = ebml_check_table(s->entries, n, s->parts, m);
     s->is_shape_good = !EBML_IS_REFUSAL(checked) || EBML_CHECK_NUMBER(checked) != EBML_TABLE_SHAPE;
+    s->is_table_passed = !EBML_IS_REFUSAL(checked);
+    s->cuts.is_table_written = 0;
     say(s, s->is_shape_good ? "ok" : "X 10");
     return 1;
 }
@@ -312,7 +318,8 @@ static int alone(struct session *s, struct text name)
     if (is(name, "st")) {
         if (finished.code == 0 && finished.value != (w[FINISHED] != 0 && w[WAITING_COUNT] == 0))
             s->fault = "ebml_is_finished says another thing than the words";
-        record_show(s);
+        say(s, "st");
+        record_show(s, &s->d);
         return 1;
     }
     if (!is(name, "new"))
@@ -346,8 +353,10 @@ void session_line(struct session *s, const char *line, size_t length)
     if (length <= MOST_LINE && (length == 0 || line[0] == '#'))
         return;
     const int has_words = cut(&rest, ' ', &name);
-    if (!is_one_of(name, "st decode eof"))
+    if (!is_one_of(name, "st decode eof")) {
         run_close(s);
+        cuts_close(s);
+    }
     s->lines++;
     if (length > MOST_LINE) {
         say(s, "BADLINE");
@@ -362,7 +371,7 @@ void session_line(struct session *s, const char *line, size_t length)
 int session_begin(struct session *s, size_t room)
 {
     memset(s, 0, sizeof *s);
-    s->is_shape_good = 1;
+    s->is_shape_good = s->is_table_passed = 1;
     s->run.room = room;
     if (ebml_decoder_new(&s->d) != 0)
         s->fault = "ebml_decoder_new refuses";
@@ -373,9 +382,18 @@ int session_begin(struct session *s, size_t room)
     return s->run.single != NULL && s->run.listed != NULL;
 }
 
+void session_cut(struct session *s, uint64_t seed, FILE *script, uint64_t one_in)
+{
+    s->cuts.is_on = script != NULL;
+    s->cuts.seed = seed;
+    s->cuts.script = script;
+    s->cuts.one_in = one_in;
+}
+
 void session_end(struct session *s)
 {
     run_close(s);
+    cuts_close(s);
     free(s->run.single);
     free(s->run.listed);
 }

@@ -2,6 +2,7 @@
 
 pub mod calls;
 mod check;
+pub mod joined;
 pub mod listed;
 mod strict;
 pub mod table;

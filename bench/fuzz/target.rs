@@ -1,9 +1,11 @@
 //! What the fuzzer calls: bytes become a session of decoder calls, which the Rust answers here and ours from the script
-//! of its calls, once as `replay` does and once by the C calls (from_c.c). A difference that is not a listed one ends the
-//! program, and so does a call that does not return.
+//! of its calls, once as `replay` does and once by the C calls (from_c.c). Its rows of decode calls are then asked in
+//! one piece and cut at other places, by the C calls and as `replay` does. A difference that is not a listed one ends
+//! the program, and so does a call that does not return.
 
 mod reading;
 
+use judging::joined::Joined;
 use judging::listed::{Expected, Listing};
 use oracle::fields::hex;
 use oracle::{silence_panics, Oracle};
@@ -14,6 +16,8 @@ const MOST_CALLS: usize = 100;
 const MOST_ENDS: usize = 40;
 const MOST_WORDS: usize = 8_192;
 const ROOM: usize = 1 << 18;
+/// The answers to rows of calls, cut and uncut.
+const ROWS_ROOM: usize = 1 << 22;
 
 static SILENCE: Once = Once::new();
 
@@ -29,6 +33,7 @@ extern "C" {
         out_len: usize,
     ) -> u64;
     fn from_c_script(script: *const u8, script_len: usize, out: *mut u8, out_len: usize) -> usize;
+    fn from_c_rows(len: *mut usize) -> *const u8;
 }
 
 #[no_mangle]
@@ -40,10 +45,41 @@ pub extern "C" fn LLVMFuzzerTestOneInput(data: *const u8, len: usize) -> i32 {
         unsafe { std::slice::from_raw_parts(data, len) }
     };
     let session = Session::of(data);
-    let ours = session.asked_of_ours();
-    session.compare(&ours);
+    session.compare(&asked_of_ours(&session.calls.join("\n"), ROOM));
     session.compare(&session.asked_from_c());
+    session.compare_rows();
     0
+}
+
+/// The answers to a script as `replay` gives them.
+fn asked_of_ours(script: &str, room: usize) -> Vec<u8> {
+    let mut entries = vec![0; MOST_WORDS];
+    let mut parts = vec![0; MOST_WORDS];
+    let mut out = Vec::with_capacity(room);
+    unsafe {
+        let filled = bench_script(
+            script.as_ptr(),
+            script.len(),
+            entries.as_mut_ptr(),
+            entries.len(),
+            parts.as_mut_ptr(),
+            parts.len(),
+            out.as_mut_ptr(),
+            room,
+        );
+        out.set_len(filled as usize);
+    }
+    out
+}
+
+/// The rows that the C calls kept of the last script, as a script.
+fn rows() -> String {
+    let mut len = 0;
+    let rows = unsafe { from_c_rows(&mut len) };
+    if len == 0 {
+        return String::new();
+    }
+    String::from_utf8_lossy(unsafe { std::slice::from_raw_parts(rows, len) }).into_owned()
 }
 
 /// The calls and the Rust's answers.
@@ -149,27 +185,6 @@ impl Session {
         }
     }
 
-    fn asked_of_ours(&self) -> Vec<u8> {
-        let script = self.calls.join("\n");
-        let mut entries = vec![0; MOST_WORDS];
-        let mut parts = vec![0; MOST_WORDS];
-        let mut out = vec![0; ROOM];
-        let filled = unsafe {
-            bench_script(
-                script.as_ptr(),
-                script.len(),
-                entries.as_mut_ptr(),
-                entries.len(),
-                parts.as_mut_ptr(),
-                parts.len(),
-                out.as_mut_ptr(),
-                out.len(),
-            )
-        };
-        out.truncate(filled as usize);
-        out
-    }
-
     fn asked_from_c(&self) -> Vec<u8> {
         let script = self.calls.join("\n");
         let mut out = vec![0; ROOM];
@@ -192,6 +207,17 @@ impl Session {
             if ours != wanted {
                 self.differ(call, rust, &wanted, ours);
             }
+        }
+    }
+
+    /// Whether the rows have the same answers in one piece and in others, behind `asked_from_c`.
+    fn compare_rows(&self) {
+        let script = rows();
+        let answers = String::from_utf8_lossy(&asked_of_ours(&script, ROWS_ROOM)).into_owned();
+        let lines = |text: &str| text.lines().map(str::to_string).collect::<Vec<String>>().into_iter();
+        let joined = Joined::of(lines(&script), lines(&answers));
+        if let Some(fault) = joined.faults.first() {
+            self.differ(fault, "", "the same as in one piece", &script);
         }
     }
 
