@@ -10,7 +10,7 @@ use borrow.Author.Tests.{leb-true}
 use lib.ListN.{drop}
 use Rattle.basics.specs.Lists.{every}
 use Rattle.basics.proofs.Bools.{both, and-both, not-false, absurd-eq}
-use Rattle.basics.proofs.Every.{every-drop}
+use Rattle.basics.proofs.Every.{every-drop, every-map}
 use Rattle.table.specs.Table.{Entry, tableOf}
 use Rattle.tag_parse.specs.declared.types.EBMLSize.{EBMLSize}
 use Rattle.tag_parse.specs.declared.types.EBMLSize.the-variants.{Known, Unknown}
@@ -20,11 +20,12 @@ use Rattle.decoder_rules.specs.declared.types.Event.the-variants as event
 use Rattle.decoder_rules.specs.declared.types.Optional.{Optional}
 use Rattle.decoder_rules.specs.declared.types.Optional.the-variants.{Nothing, Number}
 use Rattle.decoder_rules.specs.declared.types.Search.{Search}
+use Rattle.decoder_rules.specs.declared.types.Search.the-variants as search
 use Rattle.decoder_rules.specs.declared.types.TagDecoder.{TagDecoder}
 use Rattle.decoder_rules.specs.declared.types.WaitingEnd.{WaitingEnd}
 use Rattle.tag_parse.specs.declared.types.TagValue.{TagValue}
-use Rattle.guarantees.specs.Calls.{Call, lent, Response, answered, searched, silent, responseTo, recordAfter, history, Lent}
-use Rattle.guarantees.specs.History.{Started, declaredEnd, headerEnd, endAfter, afterResponse, takenIn, firstEnd, outermostEnd, startsOpen, position, testAfter, childTestNeverOff, isNoRecovery, neverRecovered}
+use Rattle.guarantees.specs.Calls.{Call, lent, Response, answered, searched, silent, responseTo, Step, recordAfter, history, Lent}
+use Rattle.guarantees.specs.History.{Started, declaredEnd, headerEnd, endAfter, laterEnd, later, afterResponse, takenIn, firstEnd, outermostEnd, startsOpen, position, testAfter, childTestNeverOff, isNoRecovery, neverRecovered}
 use Rattle.guarantees.specs.Promises.{HeaderAlone, WholeData, Runs, lastResponse, Answers, openAt, leftAt, positionAt}
 use Rattle.guarantees.specs.CutRecords.{startedBy, everStarted, isKnown, allKnown, topBy, lastTopEnd}
 use Rattle.guarantees.proofs.Steps.{reachesTo, Ends}
@@ -37,7 +38,7 @@ use Rattle.guarantees.proofs.InOrder.{isElement, takes-none}
 -- ---- where elements end
 
 -- the header alone ends inside its element
-head-inside : (t : List Entry) (s : List ℕ) (p n e : ℕ) → HeaderAlone t s n → declaredEnd t p s ≡ Number e → p + n ≤ e
+pub head-inside : (t : List Entry) (s : List ℕ) (p n e : ℕ) → HeaderAlone t s n → declaredEnd t p s ≡ Number e → p + n ≤ e
 unfolding declaredEnd
 head-inside t s p n e h q = go (h .its .size) (sym (ap (headerEnd p) (h .read)) ∙ q)
   where
@@ -46,14 +47,14 @@ head-inside t s p n e h q = go (h .its .size) (sym (ap (headerEnd p) (h .read)) 
     go (Known k) r = let y : p + h .its .len + k ≡ e = cc in omega (arith, y, h .no-more)
 
 -- a Data ends where what is taken does
-data-end : (strict : Bool) (t : List Entry) (s : List ℕ) (p n : ℕ) (v : TagValue) → WholeData strict t s p n v → declaredEnd t p s ≡ Number (p + n)
+pub data-end : (strict : Bool) (t : List Entry) (s : List ℕ) (p n : ℕ) (v : TagValue) → WholeData strict t s p n v → declaredEnd t p s ≡ Number (p + n)
 unfolding declaredEnd
 data-end strict t s p n v h =
     let a : p + h .its .len + h .size ≡ p + n = omega (arith, h .count) in
     ap (headerEnd p) (h .read) ∙ ap (endAfter (p + h .its .len)) (h .known) ∙ ap Number a
 
 -- a known end is a number
-known-end : (g : Optional) → isKnown g ≡ true → (e : ℕ) × (g ≡ Number e)
+pub known-end : (g : Optional) → isKnown g ≡ true → (e : ℕ) × (g ≡ Number e)
 known-end Nothing h = absurd (false≢true h)
 known-end (Number e) h = (e, refl)
 
@@ -146,20 +147,46 @@ told-top strict t s l left p g (answered (answer.Refused r) n) ever f m none uns
 told-top strict t s l left p g (searched a n) ever f m none unsearched full ks kl at = absurd (unsearched a n refl)
 told-top strict t s l left p g silent ever f m none unsearched full ks kl at = same-top g l p 0 refl at
 
--- those that are open stay of known size
-told-known : (t : List Entry) (s : List ℕ) (l ever : List Started) (x : Response) → ((a : Search) (n : ℕ) → x ≡ searched a n → ⊥) → allOf (startedBy t s x ever) ≡ true
-    → (allOf ever ≡ true → allOf l ≡ true) → (allOf ever ≡ true) × (allOf (afterResponse t s x l) ≡ true)
+-- ---- which Starts are of known size
+
+-- where those up to a call are, those before it are
+told-before : (t : List Entry) (s : List ℕ) (x : Response) (ever : List Started) → allOf (startedBy t s x ever) ≡ true → allOf ever ≡ true
 unfolding every
-told-known t s l ever (answered (answer.Event (event.Start y o)) n) unsearched k h =
-    let b = both (isKnown (declaredEnd t o s)) (allOf ever) k in
-    (b .right, and-both (b .left) (h (b .right)))
-told-known t s l ever (answered (answer.Event (event.End end)) n) unsearched k h = (k, every-drop (λ (m : Started). isKnown (m .end)) 1 l (h k))
-told-known t s l ever (answered (answer.Event (event.Data y o v)) n) unsearched k h = (k, h k)
-told-known t s l ever (answered (answer.NeedMore missing) n) unsearched k h = (k, h k)
-told-known t s l ever (answered answer.Finished n) unsearched k h = (k, h k)
-told-known t s l ever (answered (answer.Refused r) n) unsearched k h = (k, h k)
-told-known t s l ever (searched a n) unsearched k h = absurd (unsearched a n refl)
-told-known t s l ever silent unsearched k h = (k, h k)
+told-before t s (answered (answer.Event (event.Start y o)) n) ever k = both (isKnown (declaredEnd t o s)) (allOf ever) k .right
+told-before t s (answered (answer.Event (event.End end)) n) ever k = k
+told-before t s (answered (answer.Event (event.Data y o v)) n) ever k = k
+told-before t s (answered (answer.NeedMore missing) n) ever k = k
+told-before t s (answered answer.Finished n) ever k = k
+told-before t s (answered (answer.Refused r) n) ever k = k
+told-before t s (searched a n) ever k = k
+told-before t s silent ever k = k
+
+-- a known end is known later too
+known-later : (n : ℕ) (g : Optional) → isKnown g ≡ true → isKnown (laterEnd n g) ≡ true
+known-later n Nothing e = e
+known-later n (Number f) e = refl
+
+-- those that are open stay so
+told-known : (t : List Entry) (s : List ℕ) (x : Response) (ever l : List Started) → (allOf ever ≡ true → allOf l ≡ true)
+    → allOf (startedBy t s x ever) ≡ true → allOf (afterResponse t s x l) ≡ true
+unfolding every later
+told-known t s (answered (answer.Event (event.Start y o)) n) ever l h k = let b = both (isKnown (declaredEnd t o s)) (allOf ever) k in and-both (b .left) (h (b .right))
+told-known t s (answered (answer.Event (event.End end)) n) ever l h k = every-drop (λ (m : Started). isKnown (m .end)) 1 l (h k)
+told-known t s (answered (answer.Event (event.Data y o v)) n) ever l h k = h k
+told-known t s (answered (answer.NeedMore missing) n) ever l h k = h k
+told-known t s (answered answer.Finished n) ever l h k = h k
+told-known t s (answered (answer.Refused r) n) ever l h k = h k
+told-known t s (searched (search.Found passed) n) ever l h k =
+    every-map (λ (m : Started). isKnown (m .end)) (later passed) (λ (m : Started). isKnown (m .end)) (λ m e. known-later passed (m .end) e) l (h k)
+told-known t s (searched (search.NotFound passed) n) ever l h k = h k
+told-known t s (searched (search.Refused r) n) ever l h k = h k
+told-known t s silent ever l h k = h k
+
+-- where every Start is of known size, those that are open are
+pub known-open : (t : List Entry) (h : List Step) → allKnown t h ≡ true → allOf (startsOpen t h) ≡ true
+unfolding everStarted startsOpen every
+known-open t [] k = refl
+known-open t (s ∷ h) k = told-known t (lent (s .call)) (s .told) (everStarted t h) (startsOpen t h) (known-open t h) k
 
 -- ---- any calls
 
@@ -167,19 +194,10 @@ module _ (es ps : List ℕ) where
   abbrev t : List Entry
   t = tableOf es ps
 
-  known-open : (cs : List Call) → neverRecovered cs ≡ true → allKnown t (history es ps cs) ≡ true → allOf (openAt es ps cs) ≡ true
-  unfolding history everStarted startsOpen neverRecovered
-  known-open [] none k = k
-  known-open (c ∷ cs) none k =
-      let r = both (isNoRecovery c) (neverRecovered cs) none in
-      told-known t (lent c) (openAt es ps cs) (everStarted t (history es ps cs)) (lastResponse es ps cs c) (no-search es ps (recordAfter es ps cs) c (r .left)) k (known-open cs (r .right)) .1
-
   -- where every Start is of known size, those before the last call are
-  pub known-before : (cs : List Call) (c : Call) → neverRecovered (c ∷ cs) ≡ true → allKnown t (history es ps (c ∷ cs)) ≡ true → allKnown t (history es ps cs) ≡ true
-  unfolding history everStarted neverRecovered
-  known-before cs c none k =
-      let r = both (isNoRecovery c) (neverRecovered cs) none in
-      told-known t (lent c) (openAt es ps cs) (everStarted t (history es ps cs)) (lastResponse es ps cs c) (no-search es ps (recordAfter es ps cs) c (r .left)) k (known-open cs (r .right)) .0
+  pub known-before : (cs : List Call) (c : Call) → allKnown t (history es ps (c ∷ cs)) ≡ true → allKnown t (history es ps cs) ≡ true
+  unfolding history everStarted
+  known-before cs c k = told-before t (lent c) (lastResponse es ps cs c) (everStarted t (history es ps cs)) k
 
   -- so it is after any calls
   pub top-at : (cs : List Call) → Runs es ps cs → childTestNeverOff cs ≡ true → neverRecovered cs ≡ true → allKnown t (history es ps cs) ≡ true
@@ -193,11 +211,11 @@ module _ (es ps : List ℕ) where
       let r = both (isNoRecovery c) (neverRecovered cs) none in
       let ever = everStarted t (history es ps cs) in
       let unsearched = no-search es ps d c (r .left) in
-      let known = known-before cs c none k in
+      let known = known-before cs c k in
       let off : d .settings .«allow_oversized» ≡ false = not-false _ (test-after es ps (run .checked) cs (run .octets .1) ∙ never-off-on cs (b .right)) in
       let f = subst (λ (x : Bool). ResponseFacts t x (lent c) (openAt es ps cs) (leftAt es ps cs c) (positionAt es ps cs) (responseTo es ps d c)) off (promised-after es ps cs c run .promised) in
       told-top _ t (lent c) (openAt es ps cs) (leftAt es ps cs c) (positionAt es ps cs) (lastTopEnd t (history es ps cs)) (lastResponse es ps cs c) ever f (promised-after es ps cs c run .measured)
-      (takes-none es ps d c) unsearched (λ end n e m rest q u v. end-is-full es ps cs c run (b .right) end e m rest (n, q) u v) k (known-open cs (r .right) known)
+      (takes-none es ps d c) unsearched (λ end n e m rest q u v. end-is-full es ps cs c run (b .right) end e m rest (n, q) u v) k (known-open t (history es ps cs) known)
       (top-at cs before (b .right) (r .right) known)
 
   -- when the finish is answered, the position is the end of the last element at the top

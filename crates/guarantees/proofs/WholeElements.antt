@@ -10,6 +10,8 @@ use Rattle.basics.proofs.Bools.{both, absurd-eq}
 use Rattle.tools.specs.Bytes.{Octets}
 use Rattle.table.specs.Table.{Entry, tableOf}
 use Rattle.tag_parse.specs.Header.{readHeader}
+use Rattle.tag_parse.specs.declared.types.ReadHeader.the-variants.{Header}
+use Rattle.tag_parse.specs.declared.types.TagHeader.{TagHeader}
 use Rattle.tag_parse.proofs.Headers.{header-local}
 use Rattle.decoder_rules.specs.declared.types.Answer.the-variants as answer
 use Rattle.decoder_rules.specs.declared.types.Event.the-variants as event
@@ -19,19 +21,20 @@ use Rattle.guarantees.specs.Calls.{Call, lent, Response, answered, searc
 use Rattle.guarantees.specs.History.{Started, declaredEnd, headerEnd, outermostEnd, testAfter, childTestNeverOff}
 use Rattle.guarantees.specs.Promises.{Runs, lastResponse, Answers, openAt, leftAt, positionAt}
 use Rattle.guarantees.specs.CutRecords.{InOrder, RowTo, front, after, everStarted, allKnown, topBy, lastTopEnd}
-use Rattle.guarantees.proofs.Decided.{Heads}
 use Rattle.guarantees.proofs.AnyCalls.{ResponseFacts, promised-after}
 use Rattle.guarantees.proofs.InOrder.{lends-front, in-order-no-recovery, finish-reads-all}
 use Rattle.guarantees.proofs.TopLevel.{TopAt, outside, inside, known-before, top-at, finish-at-the-end}
 
 -- ---- an element at the top
 
--- its end is what the record says from there on, of which the call lent the front b
-declared-longer : (t : List Entry) (s b rest : List ℕ) (p x f : ℕ) → Octets b → b ++ rest ≡ drop p s → Heads t b x → declaredEnd t p b ≡ Number f → declaredEnd t p (drop p s) ≡ Number f
+-- its header is what the record says from there on, of which the call lent the front b
+pub header-longer : (t : List Entry) (s b rest : List ℕ) (p : ℕ) (h : TagHeader) → Octets b → b ++ rest ≡ drop p s → readHeader t b ≡ Header h → readHeader t (drop p s) ≡ Header h
+header-longer t s b rest p h byte e r = ap (readHeader t) (sym e) ∙ header-local t b rest (byte 0) (rw r) ∙ r
+
+-- and so is its end
+pub declared-longer : (t : List Entry) (s b rest : List ℕ) (p : ℕ) (h : TagHeader) → Octets b → b ++ rest ≡ drop p s → readHeader t b ≡ Header h → declaredEnd t p (drop p s) ≡ declaredEnd t p b
 unfolding declaredEnd
-declared-longer t s b rest p x f byte e h q =
-    let local : readHeader t (b ++ rest) ≡ readHeader t b = header-local t b rest (byte 0) (rw (h .is-read)) in
-    ap (λ (l : List ℕ). headerEnd p (readHeader t l)) (sym e) ∙ ap (headerEnd p) local ∙ q
+declared-longer t s b rest p h byte e r = ap (headerEnd p) (header-longer t s b rest p h byte e r ∙ sym r)
 
 -- where nothing is open the position is the end of the element before
 none-open : (g : Optional) (p : ℕ) → TopAt g [] p → g ≡ Number p
@@ -43,12 +46,12 @@ none-open g p (inside f q r h) = let z : _≡_ {A = ℕ} 0 1 = cc in absurd-eq z
 told-row : (t : List Entry) (s b rest : List ℕ) (off : Bool) (l : List Started) (left : List ℕ) (p : ℕ) (g : Optional) (x : Response) → Octets b → b ++ rest ≡ drop p s → ResponseFacts t off b l left p x
     → TopAt g l p → ((f : ℕ) → g ≡ Number f → RowTo t s f) → (f : ℕ) → topBy t b l x g ≡ Number f → RowTo t s f
 told-row t s b rest off [] left p g (answered (answer.Event (event.Start y o)) n) byte lies k at row f q =
-    after p f (row p (none-open g p at)) (declared-longer t s b rest p y f byte lies (k .1 .heads) (subst (λ (z : ℕ). declaredEnd t z b ≡ Number f) (k .1 .offset) q))
+    after p f (row p (none-open g p at)) (declared-longer t s b rest p (k .1 .heads .its) byte lies (k .1 .heads .is-read) ∙ subst (λ (z : ℕ). declaredEnd t z b ≡ Number f) (k .1 .offset) q)
 told-row t s b rest off (m ∷ l) left p g (answered (answer.Event (event.Start y o)) n) byte lies k at row f q = row f q
 told-row t s b rest off [] left p g (answered (answer.Event (event.End end)) n) byte lies k at row f q = row f q
 told-row t s b rest off (m ∷ l) left p g (answered (answer.Event (event.End end)) n) byte lies k at row f q = row f q
 told-row t s b rest off [] left p g (answered (answer.Event (event.Data y o v)) n) byte lies k at row f q =
-    after p f (row p (none-open g p at)) (declared-longer t s b rest p y f byte lies (k .1 .heads) (subst (λ (z : ℕ). declaredEnd t z b ≡ Number f) (k .1 .offset) q))
+    after p f (row p (none-open g p at)) (declared-longer t s b rest p (k .1 .heads .its) byte lies (k .1 .heads .is-read) ∙ subst (λ (z : ℕ). declaredEnd t z b ≡ Number f) (k .1 .offset) q)
 told-row t s b rest off (m ∷ l) left p g (answered (answer.Event (event.Data y o v)) n) byte lies k at row f q = row f q
 told-row t s b rest off l left p g (answered (answer.NeedMore missing) n) byte lies k at row f q = row f q
 told-row t s b rest off l left p g (answered answer.Finished n) byte lies k at row f q = row f q
@@ -68,8 +71,7 @@ module _ (es ps s : List ℕ) where
   row-to (c ∷ cs) run i on k f q =
       let before : Runs es ps cs = record { checked = run .checked; octets = run .octets .1 } in
       let b = both (testAfter c true) (childTestNeverOff cs) on in
-      let none = in-order-no-recovery es ps s (c ∷ cs) i in
-      let known = known-before es ps cs c none k in
+      let known = known-before es ps cs c k in
       let v = lends-front s (positionAt es ps cs) c (i .0) in
       told-row t s (lent c) (v .0) (recordAfter es ps cs .settings .«allow_oversized») (openAt es ps cs) (leftAt es ps cs c) (positionAt es ps cs) (lastTopEnd t (history es ps cs)) (lastResponse es ps cs c) (run .octets .0) (v .1)
       (promised-after es ps cs c run .promised) (top-at es ps cs before (b .right) (in-order-no-recovery es ps s cs (i .1)) known) (row-to cs before (i .1) (b .right) known) f q

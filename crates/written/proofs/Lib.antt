@@ -3,6 +3,7 @@ pub mod OneRoot
 pub mod Sizes
 pub mod Octets
 pub mod Pieces
+pub mod Places
 pub mod Depths
 pub mod Whole
 pub mod Examples

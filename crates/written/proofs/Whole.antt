@@ -142,7 +142,7 @@ root-first (then (value x v) r) b = absurd (false≢true b)
 root-first (then (master x c) r) b = record { id = x; others = _; is = refl }
 
 -- one root is begun with, and is alone
-one-begins : (doc : Run) → isOneRoot doc ≡ true → (beginsWithRoot doc ≡ true) × (childrenIn doc ≡ 1)
+pub one-begins : (doc : Run) → isOneRoot doc ≡ true → (beginsWithRoot doc ≡ true) × (childrenIn doc ≡ 1)
 unfolding childrenIn
 one-begins none b = absurd (false≢true b)
 one-begins (then e none) b = (b, refl)

@@ -1,4 +1,5 @@
 pub mod Cut
 pub mod Sizes
 pub mod Pieces
+pub mod Places
 pub mod Whole

@@ -1,0 +1,4 @@
+pub mod KnownPlaces
+pub mod FromRoot
+pub mod CountedInFile
+pub mod BenchPlaces
