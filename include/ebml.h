@@ -228,7 +228,11 @@ typedef struct ebml_decoder {
     uint64_t words[EBML_DECODER_WORDS];
 } ebml_decoder;
 
-/* An event: a Start, a value, or an End. What an event does not have is 0. */
+/* An event: a Start, a value, or an End. What an event does not have is 0.
+ *
+ * Where the table passed its check, the stream begins with a root of the table, there was no recovery, the hierarchy
+ * test is on and every Start so far has its size, the Starts that are open at a Start or a value are the path that the
+ * table gives its ID, if that is of IDs alone. */
 typedef struct ebml_event {
     uint64_t kind;       /* EBML_START, EBML_END, EBML_UNSIGNED to EBML_FLOAT, or EBML_RAW */
     uint64_t id;         /* with its marker */
