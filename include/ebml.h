@@ -221,7 +221,8 @@ uint64_t ebml_write(const uint64_t *entries, size_t entries_len, const uint64_t 
  *
  * The buffer must hold the largest element that is no master, header and data: until all of it is lent, more is needed.
  * No byte of the stream is asked for again once it was taken. Where the stream is cut into pieces does not matter, nor
- * how many events a call has room for: the events, the last reply and the words in the end are the same. */
+ * how many events a call has room for: until the end of input or a recovery, the events and the words in the end are
+ * the same, and so are the last reply's code, place and missing. */
 #define EBML_DECODER_WORDS 320
 
 typedef struct ebml_decoder {
