@@ -1,5 +1,5 @@
 -- Laws of two's complement, and of an i64's sign and magnitude as the code computes them. Assumes nothing.
-use Prim.Native.Nat.{ℕ, zero, suc, ◌+◌, ◌-◌, ◌*◌, ◌^◌, ◌≤◌, ◌<◌, zero-le}
+use Prim.Native.Nat.{ℕ, suc, ◌+◌, ◌-◌, ◌*◌, ◌^◌, ◌≤◌, ◌<◌, zero-le}
 use mathlib.Core.Path.{◌≡◌, refl, sym, ap, ◌∙◌, subst}
 use mathlib.Core.Bool.{Bool, true, false, not}
 use native.Mathlib.Omega.{arith}
@@ -7,7 +7,7 @@ use native.Mathlib.Nat.{lt_of_lt_of_le, pow-suc}
 use borrow.Author.Tests.{le-ltb, lt-ltb}
 use lib.Dec.{T}
 use lib.IntN.{ℤ, pos, negsuc, nat_abs}
-use lib.Pow.{pow_mono, pow_pos}
+use lib.Pow.{pow_mono}
 use lib.Signed.{mag, lt_z, non_neg}
 use mir.Syntax.{w64}
 use mir.Val.{to_z, of_z, SFits}

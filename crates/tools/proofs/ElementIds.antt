@@ -1,25 +1,25 @@
 -- RFC 8794, section 5: `is_element_id` accepts exactly the numbers that are an Element ID, each of one length alone and
 -- with one string of octets; what it accepts `is_vint` accepts too. Assumes nothing.
-use Prim.Native.Nat.{ℕ, zero, suc, ◌+◌, ◌-◌, ◌*◌, ◌^◌, ◌≤◌, ◌<◌}
-use mathlib.Core.Path.{◌≡◌, refl, sym, ap, ◌∙◌}
-use mathlib.Core.Bool.{Bool, true, false, not, ◌&&◌, false≢true}
+use Prim.Native.Nat.{ℕ, suc, ◌+◌, ◌-◌, ◌*◌, ◌^◌, ◌≤◌, ◌<◌}
+use mathlib.Core.Path.{◌≡◌, sym, ◌∙◌}
+use mathlib.Core.Bool.{true, false, not, ◌&&◌, false≢true}
 use mathlib.Core.List.{List}
-use mathlib.Core.Logic.{◌↔◌, ◌⊎◌, ⊎_elim}
+use mathlib.Core.Logic.{◌↔◌}
 use native.Mathlib.Omega.{arith}
 use native.Mathlib.Decide.{dec_le}
 use native.Mathlib.Nat.{pow-suc}
 use borrow.Author.Tests.{leb-true, ltb-true, eqb-false, not-true, le-leb, eq-eqb, eqb-true}
 use lib.Dec.{leb, ltb, eqb}
-use lib.Pow.{pow_mono, pow_pos}
+use lib.Pow.{pow_mono}
 use Rattle.basics.proofs.Bools.{both}
-use Rattle.tools.specs.Bytes.{be_number, be_bytes}
+use Rattle.tools.specs.Bytes.{be_number}
 use Rattle.tools.specs.Vint.{IsVint, MarkerAt, all_ones, is_vint, vint_bytes, Least}
 use Rattle.tools.specs.ElementId.{IsElementId, marked_at, id_value, mixed_bits, shortest_form, is_id_of, element_id_length, is_element_id, id_bytes}
 use Rattle.tools.proofs.BigEndian.{bytes_be}
 use Rattle.tools.proofs.IdForms.{by_form}
 use Rattle.tools.proofs.IsVint.{accepts}
 use Rattle.tools.proofs.Least.{least}
-use Rattle.tools.proofs.Rfc8794.{written_is, written_only}
+use Rattle.tools.proofs.Rfc8794.{written_is}
 
 -- ---- of L bytes
 

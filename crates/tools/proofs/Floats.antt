@@ -1,9 +1,9 @@
 -- What `widened` keeps: the value of every pattern that is no NaN, and of a NaN its sign and fraction. Assumes nothing.
-use Prim.Native.Nat.{ℕ, ◌+◌, ◌-◌, ◌*◌, ◌/◌, ◌%◌, ◌^◌, ◌≤◌, ◌<◌}
-use mathlib.Core.Path.{◌≡◌, refl, sym, ap, ◌∙◌}
-use mathlib.Core.Bool.{Bool, true, false}
+use Prim.Native.Nat.{ℕ, ◌^◌, ◌<◌}
+use mathlib.Core.Path.{◌≡◌}
+use mathlib.Core.Bool.{true, false}
 use native.Mathlib.Omega.{arith}
-use lib.Ieee.{binary32, binary64, nan_bits, of_bits, to_bits}
+use lib.Ieee.{binary32, binary64, nan_bits, of_bits}
 use lib.Ieee.Bits.{of_bits-fits, of_bits-to_bits}
 use lib.Ieee.Fits.{fits_widens}
 use Rattle.tools.specs.Float.{widened, KeptNan}

@@ -1,11 +1,9 @@
 -- `is_id_of`: one law for each answer, by what is asked of a number first, second and so on. Assumes nothing.
 use Prim.Native.Nat.{ℕ, ◌-◌, ◌*◌, ◌^◌, ◌≤◌, ◌<◌}
 use mathlib.Core.Path.{◌≡◌}
-use mathlib.Core.Bool.{true, false, not}
+use mathlib.Core.Bool.{false}
 use native.Mathlib.Omega.{arith}
 use borrow.Author.Tests.{lt-ltb, le-ltb, le-leb, lt-leb, eq-eqb, ne_eqb}
-use lib.Dec.{leb, ltb, eqb}
-use Rattle.basics.proofs.Bools.{both, and_both}
 use Rattle.tools.specs.ElementId.{is_id_of, id_value, shortest_form}
 
 -- a number below the marker of L bytes

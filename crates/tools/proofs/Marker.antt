@@ -1,22 +1,17 @@
 -- Laws of vints over the width L that the proofs of the functions cite. Assumes nothing.
-use Prim.Native.Nat.{ℕ, zero, suc, ◌+◌, ◌-◌, ◌*◌, ◌^◌, ◌≤◌, ◌<◌}
-use mathlib.Core.Path.{◌≡◌, refl, sym, ap, ◌∙◌}
-use mathlib.Core.Bool.{Bool}
-use mathlib.Core.List.{List, [], ◌∷◌, ◌++◌}
+use Prim.Native.Nat.{ℕ, suc, ◌+◌, ◌*◌, ◌^◌, ◌≤◌, ◌<◌}
+use mathlib.Core.Path.{◌≡◌, sym, ap, ◌∙◌}
+use mathlib.Core.List.{List, [], ◌∷◌}
 use native.Mathlib.Omega.{arith}
-use native.Mathlib.Nat.{lt_of_lt_of_le, add-mul, one-mul, mul-le-mul_right, not-suc-le-zero, pow-suc}
+use native.Mathlib.Nat.{add-mul, one-mul, mul-le-mul_right, not-suc-le-zero, pow-suc}
 use native.Mathlib.Numerals.{add-one}
-use native.Mathlib.Decide.{dec_le}
-use borrow.Author.Tests.{lt-ltb, le-ltb}
 use lib.Count.{count_leading_zeros, leading_top}
-use lib.Dec.{ltb}
 use lib.ListN.{length, get_or, take}
-use lib.Pow.{pow-add, pow_mono, pow_pos}
+use lib.Pow.{pow-add, pow_mono}
 use lib.Seq.{length-take-le}
 use Rattle.tools.specs.Bytes.{Octets, be_from, be_number}
-use Rattle.tools.specs.Vint.{vint_length, vint_value, least_from, width_for, vint_width, Least}
+use Rattle.tools.specs.Vint.{vint_length}
 use Rattle.tools.proofs.BigEndian.{be_from_split, be_lt, octets_take}
-use Rattle.tools.proofs.Least.{least}
 
 pub length-le_8 : (b : ℕ) → 0 < b → b < 2 ^ 8 → vint_length b ≤ 8
 length-le_8 b p h = let t = leading_top 8 b p h in let e = t.1 in omega arith

@@ -1,7 +1,7 @@
 -- Signed vints and signed integers: the range of what is read, the round trips, the least width and the refused ends,
 -- over the number of bits. Assumes nothing.
-use Prim.Native.Nat.{ℕ, zero, suc, ◌+◌, ◌-◌, ◌*◌, ◌^◌, ◌≤◌, ◌<◌}
-use mathlib.Core.Path.{◌≡◌, refl, sym, ap, ◌∙◌}
+use Prim.Native.Nat.{ℕ, ◌+◌, ◌-◌, ◌*◌, ◌^◌, ◌≤◌, ◌<◌}
+use mathlib.Core.Path.{◌≡◌, refl, ap, ◌∙◌}
 use mathlib.Core.Bool.{true}
 use mathlib.Core.List.{List, ◌++◌}
 use mathlib.Core.Logic.{◌↔◌}
@@ -14,7 +14,7 @@ use lib.ListN.{length, drop}
 use lib.Pow.{pow_pos}
 use lib.Signed.{mag}
 use Rattle.tools.specs.Bytes.{Octets, be_number}
-use Rattle.tools.specs.Vint.{IsVint, VintPart, read_vint, vint_needs_more, vint_bytes, width_for, as_vint_with_length}
+use Rattle.tools.specs.Vint.{IsVint, VintPart, read_vint, vint_needs_more, vint_bytes}
 use Rattle.tools.specs.Integer.{absolute_value}
 use Rattle.tools.specs.Twos.{signed_of, bits_of}
 use Rattle.tools.specs.SignedVint.{taken_signed, read_signed_vint, signed_vint_needs_more, signed_width, signed_vint_limit, as_signed_vint, as_signed_vint_with_length}
@@ -24,7 +24,7 @@ use Rattle.tools.specs.declared.vint.ReadVint.{ReadVint}
 use Rattle.tools.specs.declared.vint.ReadVint.TheVariants as read
 use Rattle.tools.specs.declared.vint.Written.TheVariants as written
 use Rattle.tools.proofs.BigEndian.{be_lt}
-use Rattle.tools.proofs.Cases.{signed_least_over, signed_least_written, signed_over, signed_written, vint_written}
+use Rattle.tools.proofs.Cases.{signed_least_over, signed_least_written, signed_over, vint_written}
 use Rattle.tools.proofs.Complement.{doubled, signed_low, signed_high, mag_le}
 use Rattle.tools.proofs.Rfc8794.{round_trip, vint_needs_more_lem}
 use Rattle.tools.proofs.Widths.{width_least, width_holds}

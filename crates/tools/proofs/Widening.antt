@@ -1,17 +1,17 @@
 -- What a binary32 pattern denotes, written with the fields of binary64. Assumes nothing.
 use Prim.Native.Nat.{ℕ, zero, suc, ◌+◌, ◌-◌, ◌*◌, ◌/◌, ◌%◌, ◌^◌, ◌≤◌, ◌<◌}
-use mathlib.Core.Path.{◌≡◌, refl, sym, ap, ap₂, ◌∙◌, subst}
-use mathlib.Core.Bool.{Bool, true, false, not, cond}
+use mathlib.Core.Path.{◌≡◌, refl, sym, ap, ap₂, ◌∙◌}
+use mathlib.Core.Bool.{Bool, true, false, not}
 use native.Mathlib.Omega.{arith}
-use native.Mathlib.Nat.{not-suc-le-zero, mul-div-mul_right, mod-lt, mul-one, mul-pos, pow-suc, add-sub_of_le, le_trans, mul-le-mul_right, mul-lt-mul_of_pos_right, mod-eq_of_lt, lt_of_lt_of_le}
+use native.Mathlib.Nat.{not-suc-le-zero, mul-div-mul_right, mul-one, mul-pos, pow-suc, add-sub_of_le, le_trans, mul-le-mul_right, mul-lt-mul_of_pos_right, mod-eq_of_lt, lt_of_lt_of_le}
 use native.Mathlib.Decide.{dec_le}
-use borrow.Author.Tests.{le-leb, lt-leb, lt-ltb, le-ltb, eq-eqb, ne_eqb}
-use lib.Dec.{T, leb, eqb}
-use lib.IntN.{ℤ, pos, negsuc}
-use lib.Pow.{pow_pos, pow_mono, pow-add, shr_lt}
+use borrow.Author.Tests.{le-leb, lt-leb, lt-ltb, le-ltb, ne_eqb}
+use lib.Dec.{T, leb}
+use lib.IntN.{pos, negsuc}
+use lib.Pow.{pow_pos, pow_mono, pow-add}
 use lib.Bits.{shifted_half, shifted_even}
 use lib.Count.{count_trailing_zeros, count_leading_zeros, leading_top, under}
-use lib.Ieee.{Float, fin, inf, nan, Format, binary32, binary64, prec, hid, low, ones, minus, odd, of_fields, of_bits, to_bits, nan_bits, is_nan}
+use lib.Ieee.{fin, Format, binary32, binary64, prec, hid, low, ones, minus, odd, of_fields, of_bits, to_bits, nan_bits, is_nan}
 use lib.Ieee.Bits.{to_bits-of_bits, nan_bits_is, nan_bits_above}
 use Rattle.tools.specs.Float.{widened, subnormal_of}
 

@@ -1,15 +1,13 @@
 -- The widths that the writers choose: least, and wide enough. Assumes nothing.
-use Prim.Native.Nat.{ℕ, zero, suc, ◌+◌, ◌-◌, ◌*◌, ◌^◌, ◌≤◌, ◌<◌}
-use mathlib.Core.Path.{◌≡◌, refl, sym, ap, ◌∙◌, subst}
-use mathlib.Core.Bool.{Bool, true, false}
+use Prim.Native.Nat.{ℕ, ◌+◌, ◌-◌, ◌*◌, ◌^◌, ◌≤◌, ◌<◌}
+use mathlib.Core.Path.{◌≡◌, sym, ◌∙◌}
 use mathlib.Core.Logic.{⊎_elim}
 use native.Mathlib.Omega.{arith}
 use native.Mathlib.Decide.{dec_le}
 use native.Mathlib.Nat.{eq-or-lt_of_le}
-use borrow.Author.Tests.{lt-ltb, le-ltb, ltb-true, ltb-false}
+use borrow.Author.Tests.{lt-ltb, le-ltb, ltb-true}
 use lib.Dec.{ltb}
-use lib.Pow.{pow_pos}
-use Rattle.tools.specs.Vint.{least_from, width_for, vint_width, Least}
+use Rattle.tools.specs.Vint.{width_for, vint_width, Least}
 use Rattle.tools.proofs.Least.{least, least_same}
 
 -- document 01's words for `as_vint` and the code's: v < 2 ^ (7 L) - 1 where v + 1 < 2 ^ (7 L)

@@ -6,7 +6,7 @@ ghost use Rattle.tools.specs.Refusals.{number_of, number_and_place};
 // The Rust's variants carry the refused number or bytes, which the caller here has lent and still holds.
 // `WidthMismatch` and `OutputTooShort` have no counterpart: there a width is a constant of the type, and the output a
 // Vec.
-#[derive(Drop)]
+#[derive(Clone, Copy)]
 pub enum ToolError {
     ReadVintOverflow,
     WriteVintOverflow,
@@ -19,7 +19,7 @@ pub enum ToolError {
 }
 
 // A refusal as it is told: its number, and the place in the stream, which is 0 where there is none.
-#[derive(Drop)]
+#[derive(Clone, Copy)]
 pub struct Refusal {
     pub number: u64,
     pub place: u64,

@@ -7,7 +7,7 @@ use crate::bytes::be_number;
 use crate::errors::ToolError;
 
 // The 64 bits read, or why not.
-#[derive(Drop)]
+#[derive(Clone, Copy)]
 pub enum ArrToF64 {
     Bits(u64),
     Refused(ToolError),

@@ -11,14 +11,14 @@ use crate::twos::{bits_of, is_negative, mag_of, signed_of};
 use crate::vint::Written;
 
 // A number read, or why not.
-#[derive(Drop)]
+#[derive(Clone, Copy)]
 pub enum ArrToU64 {
     Value(u64),
     Refused(ToolError),
 }
 
 // A signed number read, or why not.
-#[derive(Drop)]
+#[derive(Clone, Copy)]
 pub enum ArrToI64 {
     Value(i64),
     Refused(ToolError),

@@ -1,5 +1,6 @@
 // The number routines of ebml-iterable's tools.rs: vints, signed vints, integers and floats; and what an ID may be.
 // Every routine answers on every input; what each answer is stands in specs/.
+#![tactic(auto)]
 
 mod bytes;
 pub mod element_id;

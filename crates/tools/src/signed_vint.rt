@@ -15,7 +15,7 @@ use crate::vint::{ReadVint, Written, as_vint_with_length, read_vint};
 const SIGNED_VINT_LIMIT: u64 = 0x0080_0000_0000_0000;
 
 // What stands at the front of some bytes: a signed vint whole, or how many bytes of it are missing.
-#[derive(Drop)]
+#[derive(Clone, Copy)]
 pub enum ReadSignedVint {
     NeedMore { missing: usize },
     Refused(ToolError),

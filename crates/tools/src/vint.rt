@@ -12,7 +12,7 @@ use crate::page::length_on_page;
 const VINT_LIMIT: u64 = 0x0100_0000_0000_0000;
 
 // What stands at the front of some bytes: a vint whole, or how many bytes of it are missing.
-#[derive(Drop)]
+#[derive(Clone, Copy)]
 pub enum ReadVint {
     NeedMore { missing: usize },
     Refused(ToolError),
@@ -20,7 +20,7 @@ pub enum ReadVint {
 }
 
 // What a writer answers: how many bytes it wrote.
-#[derive(Drop)]
+#[derive(Clone, Copy)]
 pub enum Written {
     Length(usize),
     Refused(ToolError),
