@@ -44,10 +44,10 @@ fits_within (r ∷ rs) (b ∷ s) e =
     let h = fits_within rs s ((and-eq-true_iff (within r b) (fits rs s)).0 e).1 in
     omega arith
 
-pub length-following : (n : ℕ) (r : Range) → length (following n r) ≡ n
+pub length_following : (n : ℕ) (r : Range) → length (following n r) ≡ n
 unfolding following
-length-following zero r = refl
-length-following (suc n) r = ap suc (length-following n tail)
+length_following zero r = refl
+length_following (suc n) r = ap suc (length_following n tail)
 
 -- of n octets that are to follow, the next stands at j
 pub follow : (n : ℕ) (r : Range) (s : List ℕ) (j : ℕ) → 0 < n → j < length s

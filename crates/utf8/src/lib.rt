@@ -1,11 +1,13 @@
 // The check in place of String::from_utf8: whether some bytes are a text in UTF-8, RFC 3629. One pass, no table; what a
 // text is stands in specs/.
+#![tactic(auto)]
 
 ghost use Rattle.std.specs.Prelude.{◌≡◌, true, cond, ℕ, ◌+◌, ◌≤◌, ◌<◌, length, get_or, drop};
 ghost use Rattle.utf8.specs.Rfc3629.{is_text, char_length, fits};
 ghost use Rattle.utf8.specs.Helpers.{following, Passed};
 
 // An octet no less than either, so that it is below 0x80 only where both are.
+#[tactic(auto, using(std::proofs::lemmas::Nat::le_or_l, std::proofs::lemmas::Nat::le_or_r))]
 fn either(a: u8, b: u8) -> u8
     ensures { (a ≤ result) × (b ≤ result) }
 {
@@ -27,6 +29,7 @@ fn all_ascii(s: &[u8], i: usize, n: usize) -> bool
 }
 
 // Past the ASCII octets from i on, n at a time, as far as that goes.
+#[tactic(auto, using(crate::proofs::Text::passed_more, crate::proofs::Text::passed_ascii))]
 fn past_runs(s: &[u8], i: usize, n: usize) -> usize
     requires { (i ≤ length s.now) × (0 < n) }
     ensures { Passed s.now i result }
@@ -42,6 +45,7 @@ fn past_runs(s: &[u8], i: usize, n: usize) -> usize
 }
 
 // Past the ASCII octets from i on: 64 at a time, then 8, then one.
+#[tactic(auto, using(crate::proofs::Text::passed_more))]
 fn past_ascii(s: &[u8], i: usize) -> usize
     requires { i ≤ length s.now }
     ensures { Passed s.now i result }
@@ -51,6 +55,7 @@ fn past_ascii(s: &[u8], i: usize) -> usize
 
 // The length of a character whose first octet, at i, has n octets after it, the next one from low to high; 0 where they
 // do not follow.
+#[tactic(auto, using(crate::proofs::Fits::short, crate::proofs::Fits::follow, crate::proofs::Fits::below, crate::proofs::Fits::above, crate::proofs::Fits::inside, crate::proofs::Fits::length_following))]
 fn followed(s: &[u8], i: usize, n: usize, mut low: u8, mut high: u8) -> usize
     requires { (i < length s.now) × (n ≤ 3) }
     ensures { result ≡ cond (fits (following n (low, high)) (drop (i + 1) s.now)) (n + 1) 0 }
@@ -75,6 +80,7 @@ fn followed(s: &[u8], i: usize, n: usize, mut low: u8, mut high: u8) -> usize
 }
 
 // The length of the character at i, 0 where none stands there.
+#[tactic(auto, using(crate::proofs::Table::characters))]
 fn char_length(s: &[u8], i: usize) -> usize
     requires { i < length s.now }
     ensures { result ≡ char_length (drop i s.now) }
@@ -114,6 +120,7 @@ fn char_length(s: &[u8], i: usize) -> usize
 }
 
 // Whether s is a text.
+#[tactic(auto, using(crate::proofs::Text::passed_more, crate::proofs::Text::passed_char, crate::proofs::Text::stop, crate::proofs::Table::ascii_char))]
 pub fn is_utf8(s: &[u8]) -> bool
     ensures { result ≡ is_text s.now }
 {
