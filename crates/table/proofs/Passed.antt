@@ -16,9 +16,8 @@ use lib.ListN.{length}
 use Rattle.basics.specs.Lists.{every}
 use Rattle.table.specs.Table.{Entry, table_of}
 use Rattle.table.specs.Shape.{good_shape}
-use Rattle.table.specs.Check.{rule_number, allowed_id, only_ids, keeps, rules, first_broken, judged, fault_or, check_from, check_table}
-use Rattle.table.specs.Passed.{at, Masters, OwnPaths, Kept, PassedTable, LowestFault}
-use Rattle.table.specs.declared.types.TagDataType.TheVariants.{Master}
+use Rattle.table.specs.Check.{rule_number, keeps, rules, first_broken, judged, fault_or, check_from, check_table}
+use Rattle.table.specs.Passed.{at, Kept, PassedTable, LowestFault}
 use Rattle.table.specs.declared.types.Rule.{Rule}
 use Rattle.table.specs.declared.types.Rule.TheVariants.{NoElementId, Repeated, GlobalInMaster, NoMaster, OtherPath}
 use Rattle.table.specs.declared.types.Judged.{Judged}

@@ -10,7 +10,7 @@ use lib.ListN.{length, get_or, take, length-take}
 use lib.Seq.{get_or-take}
 use Rattle.basics.specs.Lists.{every}
 use Rattle.table.specs.Table.{Entry, unlisted, data_type_of, path_of, is_master, same_path}
-use Rattle.table.specs.Check.{allowed_id, listed, is_id, only_ids, master_of_ids, master_or_global, all_masters, own_paths, keeps}
+use Rattle.table.specs.Check.{listed, is_id, only_ids, master_of_ids, master_or_global, all_masters, own_paths, keeps}
 use Rattle.table.specs.Passed.{at, Masters, OwnPaths, Kept}
 use Rattle.table.specs.declared.types.TagDataType.{TagDataType}
 use Rattle.table.specs.declared.types.TagDataType.TheVariants.{Untyped, Master, UnsignedInt, Integer, Utf8, Binary, Float}

@@ -1,0 +1,29 @@
+-- `table::entry::kind_of`: by the numbers of the types. Assumes nothing.
+use native.Mathlib.Omega.{arith}
+use Rattle.std.proofs.lemmas.Bool.Decides.{nat_tests}
+use Rattle.table.specs.Table.{kind_of}
+use Rattle.table.proofs.entry.kind_of.Goals as goal
+
+pub returns-in-0 : goal.returns-in-0
+unfolding kind_of
+returns-in-0 c = rw c.in-0.is
+
+pub returns-in-1 : goal.returns-in-1
+unfolding kind_of
+returns-in-1 c = rw c.in-1.is
+
+pub returns-in-2 : goal.returns-in-2
+unfolding kind_of
+returns-in-2 c = rw c.in-2.is
+
+pub returns-in-3 : goal.returns-in-3
+unfolding kind_of
+returns-in-3 c = rw c.in-3.is
+
+pub returns-in-4 : goal.returns-in-4
+unfolding kind_of
+returns-in-4 c = rw c.in-4.is
+
+pub returns-in_default : goal.returns-in_default
+unfolding kind_of
+returns-in_default c = grind (arith, nat_tests)

@@ -1,0 +1,15 @@
+-- `table::shape::good_parts`. The invariant: each part passed is good. Assumes nothing.
+use Prim.Native.Nat.{◌-◌, ◌≤◌}
+use mathlib.Core.Path.{◌≡◌}
+use mathlib.Core.Bool.{Bool}
+use lib.ListN.{drop}
+use Rattle.basics.specs.Lists.{every}
+use Rattle.table.specs.Table.{threes}
+use Rattle.table.specs.Shape.{good_part, good_parts}
+use Rattle.table.proofs.shape.good_parts.Given as goal
+
+abbrev pub invariant-loop-i : goal.invariant-loop-i
+invariant-loop-i l = (l.i ≤ l.count) × (good_parts l.parts ≡ every (λ (good : Bool). good) (drop l.i (threes good_part l.parts)))
+
+abbrev pub decreases-loop-i : goal.decreases-loop-i
+decreases-loop-i l = l.count - l.i
