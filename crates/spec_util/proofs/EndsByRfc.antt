@@ -1,7 +1,7 @@
 -- RFC 8794, section 6.2, and who ends whom: the RFC's relation as a test, for every table; and for a Master of a table
 -- that the check passes, the port's rule is the RFC's but for an ID that the table does not have, which ends a root.
 -- Assumes nothing.
-use Prim.Native.Nat.{ℕ, suc, ◌-◌, ◌<◌}
+use Prim.Native.Nat.{ℕ, suc, ◌-◌}
 use mathlib.Core.Path.{◌≡◌, refl, sym, ap, ap₂, ◌∙◌}
 use mathlib.Core.Bool.{Bool, true, false, false≢true, true≢false, not, ◌&&◌, ◌||◌, or-true}
 use mathlib.Core.List.Memᴰ

@@ -9,7 +9,7 @@ use lib.ListN.{length, get_or, take}
 use lib.Seq.{take_all}
 use Rattle.table.specs.Table.{Entry}
 use Rattle.table.specs.declared.types.PathPart.{PathPart}
-use Rattle.spec_util.specs.Walk.{no_tag, walk_master, go_on, walk_from, ended_tops, left_open, shown_as, masters_shown, ShownIds, Shown}
+use Rattle.spec_util.specs.Walk.{no_tag, walk_master, go_on, walk_from, ended_tops, left_open, shown_as, masters_shown, Shown}
 use Rattle.spec_util.specs.declared.types.OpenTag.{OpenTag}
 use Rattle.spec_util.specs.declared.types.Walk.{Walk}
 use Rattle.spec_util.specs.declared.types.Walk.TheVariants.{Accept, Refuse, On}

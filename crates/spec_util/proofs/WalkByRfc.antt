@@ -3,20 +3,20 @@
 -- nothing.
 use Prim.Native.Nat.{ℕ, suc, ◌+◌, ◌-◌, ◌≤◌, ◌<◌}
 use mathlib.Core.Path.{◌≡◌, refl, sym, ap, ◌∙◌}
-use mathlib.Core.Bool.{Bool, true, false, false≢true, true≢false, not, ◌&&◌, ◌||◌, and-true, and-false, or-true}
-use mathlib.Core.List.{List, [], ◌∷◌, ◌++◌, map, nil≢cons, head-eq_of_cons-eq, tail-eq_of_cons-eq}
+use mathlib.Core.Bool.{Bool, true, false, false≢true, not, ◌&&◌, ◌||◌, and-true, and-false, or-true}
+use mathlib.Core.List.{List, [], ◌∷◌, ◌++◌, map, head-eq_of_cons-eq, tail-eq_of_cons-eq}
 use mathlib.Core.Logic.{◌↔◌}
 use borrow.Author.Tests.{not-true, eq-eqb, ne_eqb, eqb-true, lt-leb, le-leb, le-ltb, lt-ltb, ltb-true}
 use native.Mathlib.Numerals.{add-one}
 use native.Mathlib.Omega.{arith}
-use lib.Dec.{eqb, ltb}
+use lib.Dec.{eqb}
 use lib.ListN.{length, get_or, drop, length-drop, length-map}
 use lib.Seq.{drop-cons}
 use Rattle.basics.specs.Lists.{every}
 use Rattle.basics.proofs.Bools.{both, and_both}
 use Rattle.basics.proofs.Every.{every_other}
 use Rattle.table.specs.Table.{Entry, path_of, path_ids}
-use Rattle.table.specs.Check.{is_id, only_ids}
+use Rattle.table.specs.Check.{only_ids}
 use Rattle.table.specs.declared.types.Bound.{Bound}
 use Rattle.table.specs.declared.types.Bound.TheVariants.{NotGiven, Given}
 use Rattle.table.specs.declared.types.PathPart.{PathPart}
@@ -24,8 +24,6 @@ use Rattle.table.specs.declared.types.PathPart.TheVariants.{Id, Global}
 use Rattle.spec_util.specs.Walk.{over_max, under_min, is_id_at, walk_global, walk_at, walk_part, unknown_and_ended, walk_master, min_met, walk_end, go_on, walk_from, place_along, validate_tag_path}
 use Rattle.spec_util.specs.Rfc8794.{in_bounds, PathNames, passes_after, path_names, global_only_last, stays_open}
 use Rattle.spec_util.specs.declared.types.OpenTag.{OpenTag}
-use Rattle.spec_util.specs.declared.types.Walk.{Walk}
-use Rattle.spec_util.specs.declared.types.Walk.TheVariants.{Accept, Refuse, On}
 
 -- ---- the test is the relation
 

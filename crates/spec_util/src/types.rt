@@ -7,7 +7,7 @@ ghost use Rattle.spec_util.specs.Walk.{open_tag, no_tag};
 pub const MOST_OPEN: usize = 32;
 
 // An open master. The size means nothing where it is not known; the count is that of its children so far.
-#[derive(Drop)]
+#[derive(Clone, Copy)]
 pub struct OpenTag {
     pub id: u64,
     pub known: bool,
@@ -39,7 +39,7 @@ pub fn no_tag() -> OpenTag
 }
 
 // The walk ends with an answer, or goes on at this marker with this counter.
-#[derive(Drop)]
+#[derive(Clone, Copy)]
 pub enum Walk {
     Accept,
     Refuse,
