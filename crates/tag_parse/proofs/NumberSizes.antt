@@ -1,7 +1,7 @@
 -- A number has at most 8 bytes: a header that reads says no more of a type 1, 2 or 5 (document 01, step 5), so that no
 -- payload that a header announces is a number of over 8 bytes (document 02, CR 8). Assumes nothing.
 use Prim.Native.Nat.{ℕ, ◌≤◌}
-use mathlib.Core.Path.{◌≡◌, refl, sym, ◌∙◌}
+use mathlib.Core.Path.{◌≡◌, refl}
 use mathlib.Core.Bool.{Bool, true, false, cond, ◌&&◌}
 use mathlib.Core.List.{List}
 use native.Mathlib.Omega.{arith}

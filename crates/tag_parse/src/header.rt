@@ -22,6 +22,7 @@ fn id_length(first: u8) -> usize
 }
 
 // The ID at the front of the bytes, its marker kept.
+#[tactic(auto, using(crate::proofs::Cases::id_none, crate::proofs::Cases::id_short, crate::proofs::Cases::id_value_lem, crate::proofs::Cases::id_never))]
 pub fn read_tag_id(input: &[u8]) -> ReadTagId
     ensures { result ≡ read_tag_id input.now }
 {
@@ -57,6 +58,7 @@ fn is_numeric(kind: TagDataType) -> bool
 }
 
 // Whether a size is over what a number's payload can have.
+#[tactic(auto, using(crate::proofs::Cases::not_long, crate::proofs::Cases::long_by_kind))]
 fn is_too_long(kind: TagDataType, size: u64) -> bool
     ensures { result ≡ too_long kind size }
 {
@@ -81,6 +83,7 @@ pub fn size_of(size: u64, length: usize) -> EBMLSize
 }
 
 // The header of an ID and a size vint, each with its length.
+#[tactic(auto, unfolding(crate::specs::Header::sized_by))]
 fn with_size(id: u64, spec: Spec, id_len: usize, size: u64, size_len: usize) -> ReadHeader
     requires { (id_len ≤ 8) × (size_len ≤ 8) }
     ensures { result ≡ sized_by id spec id_len size size_len }

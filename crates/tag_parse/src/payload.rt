@@ -68,6 +68,7 @@ fn float_value(raw_data: &[u8]) -> ReadValue
 
 // The value of a payload of a type, which has at most 8 bytes where it is an integer's; the range is where the payload
 // lies in the stream.
+#[tactic(auto, unfolding(crate::specs::Payload::value_of))]
 pub fn value_of(strict: bool, kind: TagDataType, raw_data: &[u8], range: Range) -> ReadValue
     requires raw_data_len_bound { is_integer kind ≡ true → length raw_data.now ≤ 8 }
     requires raw_data_bound { range.begin + length raw_data.now < 2 ^ 64 }
@@ -117,6 +118,7 @@ fn data_of(r: ReadValue) -> ReadData
 
 // The value of a payload of a type, whatever its bytes are: an integer of over 8 bytes is refused as `arr_to_u64` and
 // `arr_to_i64` refuse it.
+#[tactic(auto, unfolding(crate::specs::Payload::read_data))]
 pub fn read_data_tag(kind: TagDataType, raw_data: &[u8], range: Range) -> ReadData
     ensures { result ≡ read_data kind raw_data.now range }
 {

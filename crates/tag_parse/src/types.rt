@@ -8,7 +8,7 @@ use tools::errors::ToolError;
 
 // The Rust's errors of an element: `InvalidTagData` of CorruptedFileError, and those problems of CorruptedTagData that
 // an element can have whose header was read. An integer of over 8 bytes is none: its header was refused.
-#[derive(Drop)]
+#[derive(Clone, Copy)]
 pub enum ParseError {
     InvalidTagData,
     FromUtf8Error,
@@ -27,21 +27,21 @@ pub fn parse_number(e: ParseError) -> u64
 }
 
 // What stands at the front of some bytes, read as an ID: an ID whole, or how many bytes of it are missing.
-#[derive(Drop)]
+#[derive(Clone, Copy)]
 pub enum ReadTagId {
     NeedMore { missing: usize },
     TagId { id: u64, length: usize },
 }
 
 // The size that a header says.
-#[derive(Drop)]
+#[derive(Clone, Copy)]
 pub enum EBMLSize {
     Known(u64),
     Unknown,
 }
 
 // An element's header. The path comes with the type, so that one look-up serves the whole call.
-#[derive(Drop)]
+#[derive(Clone, Copy)]
 pub struct TagHeader {
     pub id: u64,
     pub kind: TagDataType,
@@ -51,7 +51,7 @@ pub struct TagHeader {
 }
 
 // What stands at the front of some bytes, read as a header; where more is needed, how many bytes are missing at least.
-#[derive(Drop)]
+#[derive(Clone, Copy)]
 pub enum ReadHeader {
     NeedMore { missing: usize },
     Refused(ParseError),
@@ -59,14 +59,14 @@ pub enum ReadHeader {
 }
 
 // From begin up to end, end not included, counted from the stream's first byte.
-#[derive(Drop)]
+#[derive(Clone, Copy)]
 pub struct Range {
     pub begin: u64,
     pub end: u64,
 }
 
 // The six kinds of value. A float is the 64 bits of its binary64 pattern.
-#[derive(Drop)]
+#[derive(Clone, Copy)]
 pub enum TagValue {
     UnsignedInt(u64),
     Integer(i64),
@@ -77,14 +77,14 @@ pub enum TagValue {
 }
 
 // The value of an element's payload, or why not.
-#[derive(Drop)]
+#[derive(Clone, Copy)]
 pub enum ReadValue {
     Value(TagValue),
     Refused(ParseError),
 }
 
 // The value of any bytes, or why not: besides, a number routine may refuse them.
-#[derive(Drop)]
+#[derive(Clone, Copy)]
 pub enum ReadData {
     Value(TagValue),
     Refused(ParseError),
