@@ -1,4 +1,5 @@
 // Numbers as text, put at a place of lent bytes. Each function answers the place after what it put.
+#![tactic(auto)]
 
 ghost use Rattle.std.specs.Prelude.{◌≡◌, [], ◌∷◌, ◌+◌, ◌≤◌, ◌<◌, length};
 ghost use Rattle.numerals.specs.Numeral.{glyph, digits, places, hex, hex16, decimal, signed_decimal};
@@ -24,6 +25,7 @@ pub fn glyph_of(d: u64) -> u8
 }
 
 // The last k digits of n.
+#[tactic(auto, using(crate::proofs::Digits::digit_more, crate::proofs::Putting::nothing), unfolding(crate::specs::Numeral::digits))]
 fn put_digits(n: u64, base: u64, k: usize, out: &mut [u8], at: usize) -> usize
     requires { (1 < base) × (base ≤ 16) × (at + k ≤ length out.old) }
     ensures { Puts k result out.new out.old at (digits base k n) }
@@ -36,6 +38,7 @@ fn put_digits(n: u64, base: u64, k: usize, out: &mut [u8], at: usize) -> usize
 }
 
 // How many digits n has, at most so many.
+#[tactic(auto, using(crate::proofs::Digits::places_one, crate::proofs::Digits::places_more), unfolding(crate::specs::Numeral::places))]
 fn places_of(n: u64, base: u64, most: usize) -> usize
     requires { 1 < base }
     ensures { (result ≡ places base most n) × (result ≤ most) }
@@ -50,6 +53,7 @@ fn places_of(n: u64, base: u64, most: usize) -> usize
 }
 
 // All the digits of n, of which there are at most so many.
+#[tactic(auto, using(crate::proofs::Digits::all_digits))]
 fn put_all(n: u64, base: u64, most: usize, out: &mut [u8], at: usize) -> usize
     requires { (1 < base) × (base ≤ 16) × (at + most ≤ length out.old) }
     ensures { Puts most result out.new out.old at (digits base (places base most n) n) }
@@ -82,6 +86,7 @@ pub fn put_decimal(n: u64, out: &mut [u8], at: usize) -> usize
 }
 
 // A signed number in decimal, after a `-` if it is negative.
+#[tactic(auto, using(crate::proofs::Digits::put_negative, crate::proofs::Digits::put_natural))]
 pub fn put_signed(v: i64, out: &mut [u8], at: usize) -> usize
     requires { at + 21 ≤ length out.old }
     ensures { Puts 21 result out.new out.old at (signed_decimal v) }

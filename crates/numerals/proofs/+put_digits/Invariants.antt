@@ -1,0 +1,5 @@
+-- The digits before the last, then the last. The measure is their number.
+use Rattle.numerals.proofs.+put_digits.Given as goal
+
+abbrev pub decreases-put_digits : goal.decreases-put_digits
+decreases-put_digits l = l.k
