@@ -1,12 +1,12 @@
 -- A size that is not known is 0 in the record of a fresh decoder, and so is a greatest size that is not set, and each
 -- move and setting leaves them so. No call asks for it. Assumes nothing.
-use Prim.Native.Nat.{ℕ, zero, suc, ◌+◌, ◌≤◌, ◌<◌}
+use Prim.Native.Nat.{ℕ, zero, suc, ◌≤◌, ◌<◌}
 use mathlib.Core.Path.{◌≡◌, refl}
-use mathlib.Core.Bool.{Bool, true, false, cond, ◌||◌, true≢false}
+use mathlib.Core.Bool.{Bool, true, false, ◌||◌, true≢false}
 use mathlib.Core.List.{List, [], ◌∷◌, ◌++◌, map}
 use native.Mathlib.Omega.{arith}
 use lib.Dec.{eqb}
-use lib.ListN.{length, get_or, take, set}
+use lib.ListN.{length, get_or, take}
 use lib.Seq.{take-suc, take-suc-set}
 use Rattle.basics.specs.Lists.{every}
 use Rattle.basics.proofs.Bools.{and_both}

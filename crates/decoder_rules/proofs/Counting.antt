@@ -1,6 +1,6 @@
 -- A Start or a Data counts in the innermost open master: what that keeps of the record and what it makes of its open
 -- masters, read as a list. Assumes nothing.
-use Prim.Native.Nat.{ℕ, zero, suc, ◌+◌, ◌-◌, ◌≤◌, ◌<◌}
+use Prim.Native.Nat.{ℕ, zero, suc, ◌-◌, ◌≤◌, ◌<◌}
 use mathlib.Core.Path.{◌≡◌, refl, sym, ap, ◌∙◌}
 use mathlib.Core.Bool.{Bool, true}
 use mathlib.Core.List.{List, [], ◌∷◌, ◌++◌, map, reverse, append_assoc, map-append, reverse-append}
@@ -13,7 +13,7 @@ use Rattle.basics.proofs.Every.{every_append, every_front, every_other, every_la
 use Rattle.spec_util.specs.Walk.{most_open, no_tag}
 use Rattle.spec_util.specs.declared.types.OpenTag.{OpenTag}
 use Rattle.decoder_rules.specs.Record.{farthest, opens, waits, with_open, with_notes, with_one_more, counted_last, counted}
-use Rattle.decoder_rules.specs.OneCall.{good_open, good_end}
+use Rattle.decoder_rules.specs.OneCall.{good_open}
 use Rattle.decoder_rules.specs.declared.types.TagDecoder.{TagDecoder}
 use Rattle.decoder_rules.proofs.GoodState.{GoodState, good_open_lem, is_good_open}
 use Rattle.decoder_rules.proofs.MoveEffects.{SameSettings, SameNotes, same_notes, Arrays}

@@ -41,7 +41,7 @@ use Rattle.decoder_rules.specs.declared.types.Action.{Action}
 use Rattle.decoder_rules.specs.declared.types.Check.TheVariants.{Pass}
 use Rattle.decoder_rules.specs.declared.types.Decision.{Decision}
 use Rattle.decoder_rules.specs.declared.types.TagDecoder.{TagDecoder}
-use Rattle.decoder_rules.proofs.Exits.{no_master_lem, HeaderExit, misplaced, oversized, too_large, past_end, ends_tops, too_many, starts, no_size, payload_incomplete, payload_refused, holds, AtElement, HasPayload, NoneFull, AtBytes, AtHeader, Exit, refused_first, after_finish, hands_out, finished, closes_full, no_byte, header_incomplete, header_refused, id_refused, on_header, exits, exit_decides}
+use Rattle.decoder_rules.proofs.Exits.{HeaderExit, misplaced, oversized, too_large, past_end, ends_tops, too_many, starts, no_size, payload_incomplete, payload_refused, holds, AtElement, HasPayload, NoneFull, AtBytes, AtHeader, Exit, refused_first, after_finish, hands_out, finished, closes_full, no_byte, header_incomplete, header_refused, id_refused, on_header, exits, exit_decides}
 use Rattle.decoder_rules.proofs.AppendedDecision.{none_full_longer, at_header_longer}
 use Rattle.decoder_rules.proofs.Missing.{closing_never, decision_asks, none_missing}
 

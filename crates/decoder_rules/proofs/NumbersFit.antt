@@ -9,7 +9,7 @@ use native.Mathlib.Omega.{arith}
 use Rattle.tag_parse.specs.Header.{numeric}
 use Rattle.tag_parse.specs.declared.types.TagHeader.{TagHeader}
 use Rattle.tag_parse.proofs.NumberSizes.{number_size}
-use Rattle.table.specs.Table.{Entry, table_of}
+use Rattle.table.specs.Table.{table_of}
 use Rattle.decoder_rules.specs.Numbers.{error_number}
 use Rattle.decoder_rules.specs.declared.types.DecodeError.{DecodeError}
 use Rattle.decoder_rules.specs.declared.types.DecodeError.TheVariants as error

@@ -8,7 +8,7 @@
 --   4 `steps4_11` *                                10 `step10`, `close_or_fault`
 --   5 `read_header` (tag_parse), `step5` *          11 `step11` (`read_element`)
 --   6 `step6`, `refusal6`                          the order of all: `decide` *
-use Rattle.std.specs.Prelude.{ℕ, ◌+◌, ◌-◌, Bool, true, false, cond, not, ◌&&◌, ◌||◌, List, [], ◌∷◌, reverse, leb, ltb, length, take, drop}
+use Rattle.std.specs.Prelude.{ℕ, ◌+◌, ◌-◌, Bool, true, false, cond, not, ◌&&◌, ◌||◌, List, reverse, leb, ltb, length, take, drop}
 use Rattle.basics.specs.Lists.{every, first_index}
 use Rattle.table.specs.Shape.{good_shape}
 use Rattle.table.specs.Check.{only_ids}

@@ -14,7 +14,7 @@ pub const SIZE_LIMIT: u64 = 0x0100_0000_0000_0000;
 pub const FIRST_GREATEST_SIZE: u64 = 4_000_000_000;
 
 // The End of a master: its ID, where it started, and how many children it had.
-#[derive(Drop)]
+#[derive(Clone, Copy)]
 pub struct WaitingEnd {
     pub id: u64,
     pub offset: u64,
@@ -23,7 +23,7 @@ pub struct WaitingEnd {
 
 // The settings: the tests that are switched off (unknown IDs, hierarchy, child sizes), whether reading is strict, and
 // the greatest size, if one is given.
-#[derive(Drop)]
+#[derive(Clone, Copy)]
 pub struct Settings {
     pub allow_ids: bool,
     pub allow_hierarchy: bool,
@@ -35,7 +35,7 @@ pub struct Settings {
 
 // The open masters stand from the outermost on, the waiting Ends in the order in which they are handed out. Places from
 // a count on are empty.
-#[derive(Drop)]
+#[derive(Clone, Copy)]
 pub struct TagDecoder {
     pub settings: Settings,
     pub position: u64,
@@ -48,7 +48,7 @@ pub struct TagDecoder {
 }
 
 // An event. Offsets are counted from the stream's first byte.
-#[derive(Drop)]
+#[derive(Clone, Copy)]
 pub enum Event {
     Start {
         id: u64,
@@ -63,14 +63,14 @@ pub enum Event {
 }
 
 // A number, where there is one.
-#[derive(Drop)]
+#[derive(Clone, Copy)]
 pub enum Optional {
     Nothing,
     Number(u64),
 }
 
 // The bytes that are there, where any are to be named.
-#[derive(Drop)]
+#[derive(Clone, Copy)]
 pub enum Part {
     NoPart,
     Bytes(Range),
@@ -78,7 +78,7 @@ pub enum Part {
 
 // What refusal 23 names: where the element that the end cuts starts, its ID and size as far as they were read, and its
 // bytes that are there.
-#[derive(Drop)]
+#[derive(Clone, Copy)]
 pub struct Cut {
     pub start: u64,
     pub id: Optional,
@@ -88,7 +88,7 @@ pub struct Cut {
 
 // The Rust's errors under their names; the first four and the last four have no counterpart there. The last two are of
 // the strict reading alone.
-#[derive(Drop)]
+#[derive(Clone, Copy)]
 pub enum DecodeError {
     TableShape,
     BadState,
@@ -109,14 +109,14 @@ pub enum DecodeError {
 }
 
 // A refusal and its place.
-#[derive(Drop)]
+#[derive(Clone, Copy)]
 pub struct Refusal {
     pub error: DecodeError,
     pub place: u64,
 }
 
 // What a call answers.
-#[derive(Drop)]
+#[derive(Clone, Copy)]
 pub enum Answer {
     Event(Event),
     // so many bytes are missing, at least
@@ -126,7 +126,7 @@ pub enum Answer {
 }
 
 // The answer of a call, the count of bytes taken and the new state.
-#[derive(Drop)]
+#[derive(Clone, Copy)]
 pub struct Decoded {
     pub answer: Answer,
     pub taken: usize,
@@ -134,21 +134,21 @@ pub struct Decoded {
 }
 
 // A test on the way: passed, or the refusal.
-#[derive(Drop)]
+#[derive(Clone, Copy)]
 pub enum Check {
     Pass,
     Fail(DecodeError),
 }
 
 // The note that a call may leave: the open masters become the IDs of this path.
-#[derive(Drop)]
+#[derive(Clone, Copy)]
 pub enum Note {
     NoNote,
     Settle(Path),
 }
 
 // What a call does, decided before the record moves.
-#[derive(Drop)]
+#[derive(Clone, Copy)]
 pub enum Action {
     Refuse(DecodeError),
     // so many bytes are missing, at least
@@ -172,14 +172,14 @@ pub enum Action {
 }
 
 // What is decided at a call: the note, and then the action.
-#[derive(Drop)]
+#[derive(Clone, Copy)]
 pub struct Decision {
     pub note: Note,
     pub action: Action,
 }
 
 // Whether a recovery found a valid header, and how many bytes it passed over; the refusals are 10, 11 and 12.
-#[derive(Drop)]
+#[derive(Clone, Copy)]
 pub enum Search {
     Found { passed: usize },
     NotFound { passed: usize },
@@ -187,7 +187,7 @@ pub enum Search {
 }
 
 // The answer of a recovery, the count of bytes taken and the new state.
-#[derive(Drop)]
+#[derive(Clone, Copy)]
 pub struct Recovered {
     pub answer: Search,
     pub taken: usize,
@@ -195,7 +195,7 @@ pub struct Recovered {
 }
 
 // How a search stands at one place: it stops there, has found a header there, or goes on at the next.
-#[derive(Drop)]
+#[derive(Clone, Copy)]
 pub enum Place {
     Stop,
     Found,
@@ -203,7 +203,7 @@ pub enum Place {
 }
 
 // The place, and the record there.
-#[derive(Drop)]
+#[derive(Clone, Copy)]
 pub struct PlaceResult {
     pub place: Place,
     pub state: TagDecoder,
