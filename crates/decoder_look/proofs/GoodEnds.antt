@@ -1,8 +1,7 @@
 -- What was seen of a record whose waiting Ends were found good or not is what its tests ask. Assumes nothing.
-use Prim.Native.Nat.{ℕ, ◌≤◌}
-use mathlib.Core.Path.{◌≡◌, refl, ap, ◌∙◌}
+use Prim.Native.Nat.{ℕ}
+use mathlib.Core.Path.{◌≡◌, ap, ◌∙◌}
 use mathlib.Core.Bool.{Bool, true}
-use native.Mathlib.Omega.{arith}
 use lib.ListN.{take}
 use Rattle.basics.specs.Lists.{every}
 use Rattle.decoder_rules.specs.Record.{waits}

@@ -2,7 +2,7 @@
 -- contract allows for the same arguments, the answers are equal, and so are the lent words, to the last of them.
 -- Assumes nothing.
 use Prim.Native.Nat.{ℕ}
-use mathlib.Core.Path.{◌≡◌, ap₂}
+use mathlib.Core.Path.{ap₂}
 use mathlib.Core.Bool.{Bool}
 use mathlib.Core.List.{List}
 use borrow.Fn.Kinds.{Dens}

@@ -17,7 +17,7 @@ use spec_util::walk::at_most_32;
 pub const UNBOUNDED: u64 = 0xffff_ffff_ffff_ffff;
 
 // What steps 6 to 11 ask: settings, place, how many masters are open and the least of their ends.
-#[derive(Drop)]
+#[derive(Clone, Copy)]
 pub struct HeaderView {
     pub settings: Settings,
     pub position: u64,
@@ -28,7 +28,7 @@ pub struct HeaderView {
 
 // What steps 1 to 3 ask besides: whether the state is good, and how many masters stand below the outermost that is
 // full.
-#[derive(Drop)]
+#[derive(Clone, Copy)]
 pub struct Summary {
     pub is_state_good: bool,
     pub finished: bool,
