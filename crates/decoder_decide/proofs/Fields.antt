@@ -1,6 +1,6 @@
 -- The definitions of one call at the fields that they read: those of the record, or what was seen of them. Assumes
 -- nothing.
-use Prim.Native.Nat.{ℕ, ◌+◌, ◌-◌, ◌^◌, ◌≤◌, ◌<◌}
+use Prim.Native.Nat.{ℕ, ◌+◌, ◌≤◌}
 use mathlib.Core.Path.{◌≡◌, refl, sym, ap, ◌∙◌}
 use mathlib.Core.Bool.{Bool, true, false, not, ◌&&◌, ◌||◌}
 use mathlib.Core.List.{List}
@@ -9,7 +9,6 @@ use Rattle.basics.proofs.Bools.{cond_yes, cond_no}
 use Rattle.table.specs.Table.{Entry, path_of, is_typed}
 use Rattle.table.specs.declared.types.PathPart.{PathPart}
 use Rattle.spec_util.specs.Walk.{place_along, validate_tag_path}
-use Rattle.tag_parse.specs.declared.types.EBMLSize.{EBMLSize}
 use Rattle.tag_parse.specs.declared.types.EBMLSize.TheVariants.{Known, Unknown}
 use Rattle.tag_parse.specs.declared.types.TagHeader.{TagHeader}
 use Rattle.decoder_rules.specs.Record.{opens}
