@@ -28,7 +28,6 @@ use Rattle.decoder_rules.specs.Numbers.{parse_error}
 use Rattle.decoder_rules.specs.declared.types.Action.{Action}
 use Rattle.decoder_rules.specs.declared.types.Action.TheVariants as act
 use Rattle.decoder_rules.specs.declared.types.Answer.{Answer}
-use Rattle.decoder_rules.specs.declared.types.Answer.TheVariants as answer
 use Rattle.decoder_rules.specs.declared.types.Decision.{Decision}
 use Rattle.decoder_rules.specs.declared.types.Decoded.{Decoded}
 use Rattle.decoder_rules.specs.declared.types.DecodeError.{DecodeError}
@@ -160,7 +159,7 @@ module _ (es ps : List ℕ) (d : TagDecoder) (s : List ℕ) (byte : Octets s) wh
 
   -- the record that 1 admits is near
   near_by : Admitted es ps d s → Near d (length s)
-  near_by ok = let p = passed12 es ps d (length s) ok.first in record { few = p.good.«open-count»; near = p.near; counts = counts_fit d p.good }
+  near_by ok = let p = passed12 es ps d (length s) ok.first in record { few = p.good.open_count; near = p.near; counts = counts_fit d p.good }
 
   -- the path of a header that was read has at most 16 parts
   step7_fits : (h : TagHeader) → AtHeader es ps d s h → NoteApplies ps (step7 (table_of es ps) d h)

@@ -55,6 +55,7 @@ pub fn top_place(count: usize) -> usize
 }
 
 // What is answered: `first` is the first waiting End, `top` the top master.
+#[tactic(auto, unfolding(crate::specs::Answers::answer_to))]
 pub fn answer_to(action: Action, position: u64, first: WaitingEnd, top: OpenTag) -> Answer
     ensures { result ≡ answer_to action position first top }
 {
@@ -80,6 +81,7 @@ pub fn answer_to(action: Action, position: u64, first: WaitingEnd, top: OpenTag)
 }
 
 // How many bytes are taken.
+#[tactic(auto, unfolding(crate::specs::Answers::taken_by))]
 pub fn taken_by(action: Action) -> usize
     ensures { result ≡ taken_by action }
 {

@@ -1,4 +1,5 @@
 // How the record moves, and what is answered: every move, opening too.
+#![tactic(auto)]
 
 pub mod answers;
 pub mod moves;

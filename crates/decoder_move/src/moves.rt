@@ -29,6 +29,7 @@ pub fn no_end() -> WaitingEnd
 }
 
 // The End of a master.
+#[tactic(auto, unfolding(decoder_rules::specs::Record::end_for))]
 pub fn end_for(m: OpenTag) -> WaitingEnd
     ensures { result ≡ end_for m }
 {
@@ -66,6 +67,7 @@ pub fn fresh() -> TagDecoder
 }
 
 // The record, finished.
+#[tactic(auto, unfolding(decoder_rules::specs::Record::with_notes))]
 pub fn with_finished(mut d: TagDecoder) -> TagDecoder
     ensures { result ≡ with_notes d d.position d.settled true }
 {
@@ -141,6 +143,7 @@ pub fn closed_to(mut d: TagDecoder, k: usize) -> TagDecoder
 }
 
 // A master with one child more, where so many are open that it is one of them.
+#[tactic(auto, unfolding(decoder_rules::specs::Record::with_one_more))]
 pub fn with_child(mut m: OpenTag, open_count: usize) -> OpenTag
     requires { 0 < open_count → m.count ≤ farthest }
     ensures { result ≡ cond (ltb 0 open_count) (with_one_more m) m }
@@ -152,6 +155,7 @@ pub fn with_child(mut m: OpenTag, open_count: usize) -> OpenTag
 }
 
 // A master whose size, if it is known, is larger by n.
+#[tactic(auto, unfolding(decoder_rules::specs::Record::size_grown))]
 fn size_grown(mut m: OpenTag, n: u64) -> OpenTag
     requires { m.known ≡ true → m.size + n < 2 ^ 64 }
     ensures { result ≡ size_grown n m }
