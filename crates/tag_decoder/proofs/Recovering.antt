@@ -6,8 +6,6 @@ use mathlib.Core.Bool.{Bool, true, false, true≢false, false≢true}
 use mathlib.Core.List.{List, [], ◌∷◌}
 use native.Mathlib.Decide.{dec_le}
 use native.Mathlib.Omega.{arith}
-use denote.Enum.Declared.{tag_of}
-use types.Run.{OneOf, miss}
 use lib.ListN.{length, drop, length-drop, drop_of_length-le}
 use lib.Seq.{drop-drop}
 use Rattle.table.specs.Shape.{good_shape}
@@ -16,7 +14,6 @@ use Rattle.tag_parse.specs.Header.{read_header}
 use Rattle.tag_parse.specs.declared.types.ReadHeader.{ReadHeader}
 use Rattle.tag_parse.specs.declared.types.ReadHeader.TheVariants as header
 use Rattle.tag_parse.specs.declared.types.TagHeader.{TagHeader}
-use Rattle.tag_parse.specs.contracts.types.ReadHeader.{the_type}
 use Rattle.decoder_rules.specs.Record.{farthest, with_notes, at_position}
 use Rattle.decoder_rules.specs.OneCall.{step6, settles, step7, noted, valid_header}
 use Rattle.decoder_rules.specs.Recovery.{forward, at, step_on, judged, judged_at, header_at, read_at, place_at, end_of_search}
@@ -148,15 +145,15 @@ searched_first ps t d s i g k = record {
 
 -- ---- at place i, with the record moved there
 
--- the numbers of the variants but Header's
-abbrev pub others : List ℕ
-others = 0 ∷ 1 ∷ []
+-- no header was read
+abbrev pub NoHeader : ReadHeader → Type 0
+NoHeader r = (h : TagHeader) → r ≡ header.Header h → ⊥
 
 module _ (ps : List ℕ) (t : List Entry) (d : TagDecoder) where
-  stops_at : (r : ReadHeader) → OneOf others (tag_of the_type r) → may_end d.settings.strict d.settings.allow_ids r ≡ true → read_at ps t d r ≡ at Stop d
+  stops_at : (r : ReadHeader) → NoHeader r → may_end d.settings.strict d.settings.allow_ids r ≡ true → read_at ps t d r ≡ at Stop d
   stops_at (header.NeedMore missing) k e = refl
   stops_at (header.Refused x) k e = absurd (false≢true e)
-  stops_at (header.Header h) k e = absurd (miss others 2 tt k)
+  stops_at (header.Header h) k e = absurd (k h refl)
 
   judged_at_lem : (s : List ℕ) (h : TagHeader) (c : Check) → read_header t s ≡ header.Header h → step6 d h ≡ true → valid_header t (noted ps d (step7 t d h)) h ≡ c
       → place_at ps t d s ≡ judged c (noted ps d (step7 t d h))
@@ -188,7 +185,7 @@ module _ (es ps : List ℕ) (shape : good_shape es ps ≡ true) (d : TagDecoder)
     may_end_lem = ap (λ (x : Settings). may_end x.strict x.allow_ids (read_header t (drop i s))) so_far.settings ∙ so_far.there h
 
     -- where no header reads it stops too
-    pub searched_stop : OneOf others (tag_of the_type (read_header t (drop i s))) → at Stop here ≡ end_of_search ps t d s
+    pub searched_stop : NoHeader (read_header t (drop i s)) → at Stop here ≡ end_of_search ps t d s
     unfolding place_at
     searched_stop k =
         search_stops ps t here (drop i s) (at Stop here) (omega (arith, length-drop i s)) (sym (stops_at ps t here (read_header t (drop i s)) k may_end_lem)) refl
