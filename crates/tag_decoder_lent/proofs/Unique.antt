@@ -1,6 +1,6 @@
 -- No second answer meets the contract of a call on a lent record, and no second record is left: of two results, and two
--- records at exit, that a contract ensures at the same arguments, both are equal. The checker makes no reading of a
--- contract over a lent record, so this is said of its clauses themselves.
+-- records at exit, that a contract ensures at the same arguments, both are equal. It is said of the contract's clauses
+-- themselves.
 -- Assumes nothing.
 use mathlib.Core.Path.{◌≡◌, refl, ap}
 use seplogic.Ra.Ura.{Ura}

@@ -3,14 +3,14 @@
 use decoder_rules::types::{Answer, Search};
 
 // The answer of a call, and the count of bytes taken.
-#[derive(Drop)]
+#[derive(Clone, Copy)]
 pub struct Reply {
     pub answer: Answer,
     pub taken: usize,
 }
 
 // The same of a recovery.
-#[derive(Drop)]
+#[derive(Clone, Copy)]
 pub struct RecoveryReply {
     pub answer: Search,
     pub taken: usize,
