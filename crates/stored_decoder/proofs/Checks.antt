@@ -74,6 +74,16 @@ module _ (w : List ℕ) where
       let o = q ∙ ap decoder_words p in
       ap (λ (b : Bool). cond b Accepted (Refused BadState)) (e ∙ ap good_state p) ∙ sym (cond_yes _ _ _ (sym (same_good r w n l (rw o at s)) ∙ f)) ∙ checked_tests n l
 
+  -- it refuses them
+  pub checked_bad : length w ≡ word_count → get_or w 0 0 ≡ 2 → {d : TagDecoder} → d ≡ record_of w → {own : List ℕ} → own ≡ decoder_words d
+      → {r : Bool} → SameWords r w own → r ≡ true → {g : Bool} → g ≡ good_state d → g ≡ false → Refused BadState ≡ check_words w
+  checked_bad n l p q s f e h = ap (λ (b : Bool). cond b Accepted (Refused BadState)) (sym h) ∙ checked_state n l p q s f e
+
+  -- or takes them
+  pub checked_good : length w ≡ word_count → get_or w 0 0 ≡ 2 → {d : TagDecoder} → d ≡ record_of w → {own : List ℕ} → own ≡ decoder_words d
+      → {r : Bool} → SameWords r w own → r ≡ true → {g : Bool} → g ≡ good_state d → g ≡ true → Accepted ≡ check_words w
+  checked_good n l p q s f e h = ap (λ (b : Bool). cond b Accepted (Refused BadState)) (sym h) ∙ checked_state n l p q s f e
+
   -- words that are taken are 320
   pub accepted_length : check_words w ≡ Accepted → length w ≡ word_count
   unfolding check_words

@@ -1,5 +1,5 @@
 -- Document 02, CR 14: "a block of 2,560 bytes, in 8-byte big-endian words", stored and restored; layout 1.
-use Rattle.std.specs.Prelude.{ℕ, ◌^◌, ◌<◌, Bool, cond, eqb, length, get_or, take, drop, replicate}
+use Rattle.std.specs.Prelude.{ℕ, ◌^◌, ◌<◌, cond, eqb, length, get_or, take, drop, replicate}
 use mathlib.Core.List.{List, [], ◌∷◌, ◌++◌, map, flat_map}
 use Rattle.basics.specs.Lists.{array_places}
 use Rattle.tools.specs.Bytes.{be_number, be_bytes}

@@ -5,7 +5,7 @@
 --     7   "position, settled, finished"                    204   "32 of ID, offset, count"
 --                                                          300   "the rest"
 -- "Absent values, empty places and the rest are 0."
-use Rattle.std.specs.Prelude.{ℕ, zero, suc, Bool, true, false, cond, not, eqb, get_or, take, drop, replicate}
+use Rattle.std.specs.Prelude.{ℕ, zero, suc, Bool, cond, not, eqb, get_or, take, drop, replicate}
 use mathlib.Core.List.{List, [], ◌∷◌, ◌++◌, map, flat_map}
 use Rattle.basics.specs.Lists.{array_places, filled}
 use Rattle.spec_util.specs.Walk.{no_tag}

@@ -84,6 +84,7 @@ pub fn restore_words(d: TagDecoder, words: &[u64]) -> Restored
 }
 
 // The record that the lent block holds; a refusal leaves the record as it is.
+#[tactic(auto, using(crate::proofs::Checks::restores_length, crate::proofs::Checks::restores_layout2, crate::proofs::Checks::restores_unused, crate::proofs::Checks::restores_layout1))]
 pub fn restore(d: TagDecoder, block: &[u8]) -> Restored
     ensures { result ≡ restore_from d block.now }
 {

@@ -39,6 +39,7 @@ fn same_words(a: &[u64], b: &[u64]) -> bool
 
 // Whether words in layout 2 are a record's, and why not. They have no yes-or-no word over 1 and no unused byte set just
 // where they are the words of the record that they hold.
+#[tactic(auto, using(crate::proofs::Checks::checked_length, crate::proofs::Checks::checked_layout, crate::proofs::Checks::checked_unused, crate::proofs::Checks::checked_bad, crate::proofs::Checks::checked_good))]
 pub fn check_words(words: &[u64]) -> Acceptance
     ensures { result ≡ check_words words.now }
 {

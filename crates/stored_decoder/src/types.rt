@@ -10,7 +10,7 @@ pub const BLOCK_LENGTH: usize = 2560;
 
 // Why a block is not written, or not taken: its length; a layout that is not known; a yes-or-no word over 1, or an
 // unused byte that is set; a record that the decoder refuses by 11.
-#[derive(Drop)]
+#[derive(Clone, Copy)]
 pub enum StoreError {
     BlockLength,
     UnknownLayout,
@@ -19,14 +19,14 @@ pub enum StoreError {
 }
 
 // Whether a record is stored, or a block taken.
-#[derive(Drop)]
+#[derive(Clone, Copy)]
 pub enum Acceptance {
     Accepted,
     Refused(StoreError),
 }
 
 // Whether a block is taken, and the record after it.
-#[derive(Drop)]
+#[derive(Clone, Copy)]
 pub struct Restored {
     pub answer: Acceptance,
     pub state: TagDecoder,
