@@ -17,7 +17,7 @@ use Rattle.spec_util.specs.Walk.{most_open, no_tag, Shown}
 use Rattle.spec_util.specs.declared.types.OpenTag.{OpenTag}
 use Rattle.tag_parse.specs.declared.types.EBMLSize.{EBMLSize}
 use Rattle.tag_parse.specs.declared.types.TagValue.{TagValue}
-use Rattle.tag_parse.proofs.Cases.{octets_drop}
+use Rattle.tag_parse.proofs.Cases.{octets_drop, rest_is}
 use Rattle.decoder_rules.specs.Record.{farthest, opens, waits, end_for, at_position, with_notes, with_open, with_waiting, with_one_more, counted_last, counted, opened, closed_to}
 use Rattle.decoder_rules.specs.OneCall.{good_end, good_state, step3, noted}
 use Rattle.decoder_rules.specs.Deciding.{plain, decide}
@@ -39,7 +39,7 @@ use Rattle.decoder_rules.proofs.GoodState.{GoodState, good_state_lem, is_good_st
 use Rattle.decoder_rules.proofs.MovesKeepGoodState.{ends_later, closed_good}
 use Rattle.decoder_rules.proofs.MoveEffects.{Arrays, ends_head, opens-length, with_notes_arrays, opened-opens, opened_arrays, closed_opens, closed_arrays}
 use Rattle.decoder_rules.proofs.Counting.{counted_arrays, counted-map, counted_good}
-use Rattle.decoder_look.specs.Summary.{shown_end, least_end, summary_with, summary, ShownInFront}
+use Rattle.decoder_look.specs.Summary.{shown_end, least_end, summary_with, summary, ShownInFront, ForEveryRecordSummedUpAs}
 use Rattle.decoder_look.specs.declared.summary.Summary.{Summary}
 use Rattle.decoder_look.proofs.GoodEnds.{none_waits, with_ends}
 use Rattle.decoder_look.proofs.Shown.{shown_in_front}
@@ -350,6 +350,23 @@ module _ {es ps s l₀ : List ℕ} {d₀ : TagDecoder} {n₀ at₀ at : ℕ} {l 
   pub going_applies : (a : Action) → decide es ps d left ≡ plain a → ActionApplies d (length left) a
   unfolding noted
   going_applies a is = subst (λ (c : Decision). ActionApplies (noted ps d c.note) (length left) c.action) is (decide_applies es ps d left (octets_drop at s byte)).action
+
+  -- what is made of a decision on what was seen, where no call has to be made
+  pub its_action : {a : Decision} → ForEveryRecordSummedUpAs k ids knowns (λ e. a ≡ decide es ps e (take (length s - at) left)) → {q r : Quick} → q ≡ quick_of k.is_state_good a → q ≡ r
+      → is_quick r ≡ true → Made k.is_state_good (decide es ps d left) r
+  its_action {a} is {q} {r} e f y =
+      subst (λ (v : Decision). Made k.is_state_good v r) (is d g.seen g.shown ∙ ap (decide es ps d) (rest_is at s)) (made k.is_state_good a r (sym e ∙ f) y)
+
+  -- and that it applies
+  pub data_made : {x m : ℕ} {v : TagValue} → Made k.is_state_good (decide es ps d left) (quick.Data x v m) → (m ≤ length left) × (d.position + length left ≤ farthest) × CountsFit d
+  data_made {x} {m} {v} w = data-fits d (length left) x v m (going_applies (act.Data x v m) w.decided)
+
+  pub start_made : {x m : ℕ} {size : EBMLSize} → Made k.is_state_good (decide es ps d left) (quick.Start x size m)
+      → (d.open_count < most_open) × (m ≤ length left) × (d.position + length left ≤ farthest) × CountsFit d
+  start_made {x} {m} {size} w = start_fits d (length left) x size m (going_applies (act.Start x size m) w.decided)
+
+  pub end_made : {c : ℕ} → Made k.is_state_good (decide es ps d left) (quick.End c) → (c < d.open_count) × (d.open_count ≤ most_open)
+  end_made {c} w = end_fits d (length left) c (going_applies (act.Close c) w.decided)
 
   -- an event more is passed over
   passes_event : n < length l₀ / event_size → (r : Decoded) → r ≡ decode es ps d left → (e : Event) → r.answer ≡ answer.Event e → {l' : List ℕ} → l' ≡ sets l (event_size * n) (event_words r.state e)

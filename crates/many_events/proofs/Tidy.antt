@@ -1,14 +1,17 @@
 -- A record on which an End of one master clears one place: no End waits, and past its masters every place is empty. The
 -- first End of a row leaves it so, and each event keeps it so. Assumes nothing.
-use Prim.Native.Nat.{ℕ, ◌+◌, ◌-◌, ◌≤◌, ◌<◌}
-use mathlib.Core.Bool.{Bool, true, false, false≢true}
+use Prim.Native.Nat.{ℕ, ◌+◌, ◌-◌, ◌≤◌, ◌<◌, min}
+use mathlib.Core.Bool.{Bool, true, false, ◌&&◌, false≢true}
 use mathlib.Core.List.{List, [], map, reverse}
-use mathlib.Core.Path.{◌≡◌, refl, sym, ap, ◌∙◌}
+use mathlib.Core.Path.{◌≡◌, refl, sym, ap, ◌∙◌, subst}
 use native.Mathlib.Omega.{arith}
-use lib.ListN.{length, take, drop, set, length-take, length-drop, length-map, length-reverse, drop_of_length-le}
+use borrow.Author.Tests.{leb-true}
+use lib.Dec.{leb}
+use lib.ListN.{length, take, drop, set, length-drop, length-map, length-reverse, drop_of_length-le}
 use lib.Seq.{take_all}
 use Rattle.basics.specs.Lists.{filled}
 use Rattle.basics.proofs.ArrayOf32.{filled_shorter}
+use Rattle.basics.proofs.Bools.{both}
 use Rattle.spec_util.specs.Walk.{most_open, no_tag}
 use Rattle.spec_util.specs.declared.types.OpenTag.{OpenTag}
 use Rattle.decoder_rules.specs.Record.{opens, no_end, end_for, ends_from, at_position, with_notes, with_open, with_waiting, counted, opened, closed_to}
@@ -75,3 +78,27 @@ module _ (d : TagDecoder) (a : Arrays d) (few : d.open_count ≤ most_open) (k :
       ap (λ (l : List OpenTag). with_open d l k) masters
       ∙ ap (λ (v : List WaitingEnd). with_waiting (with_open d left k) v d.waiting_count) ends
       ∙ ap (λ (i : ℕ). with_waiting (with_open d left k) (filled no_end after) i) count
+
+  -- what the masters above the first k leave, k of them being left
+  pub closed_so : k < d.open_count → {r : TagDecoder} → r ≡ closed_to d k → r.waiting_count ≡ 0 → Tidy true r
+  closed_so h e none = subst (Tidy true) (sym e) (closed_tidy (omega arith) (sym (ap (λ (y : TagDecoder). y.waiting_count) e) ∙ none))
+
+  -- where `pops_one` says yes
+  module _ {clean : Bool} (t : Tidy clean d) {top : ℕ} (place : top ≡ min (d.open_count - 1) (most_open - 1)) {r : Bool} (is : r ≡ (clean && leb top k)) (yes : r ≡ true) (there : k < d.open_count)
+    where
+      found-clean : clean ≡ true
+      found-clean = (both clean (leb top k) (sym is ∙ yes)).left
+
+      pub pops_top : k + 1 ≡ d.open_count
+      pops_top =
+          let h = leb-true top k (both clean (leb top k) (sym is ∙ yes)).right in
+          omega arith
+
+      pub pops_to : {m : OpenTag} → m ≡ no_tag → with_open d (set d.«open» k m) k ≡ closed_to d k
+      pops_to e = ap (λ (m : OpenTag). with_open d (set d.«open» k m) k) e ∙ popped (t.empty found-clean) t.none_waiting (sym pops_top)
+
+      pub pops_tidy : {m : OpenTag} → m ≡ no_tag → Tidy clean (with_open d (set d.«open» k m) k)
+      unfolding with_open
+      pops_tidy e =
+          let r = closed_so there (pops_to e) t.none_waiting in
+          record { none_waiting = r.none_waiting; empty = λ b. r.empty refl }

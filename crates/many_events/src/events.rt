@@ -11,7 +11,7 @@ use spec_util::types::OpenTag;
 use tag_parse::types::TagValue;
 
 // The 8 words of an event.
-#[derive(Drop)]
+#[derive(Clone, Copy)]
 pub struct EventWords {
     pub kind: u64,
     pub id: u64,
@@ -51,6 +51,7 @@ fn front_words(kind: u64, id: u64, offset: u64, value: u64, end: u64) -> EventWo
 }
 
 // A Start with the size of its master.
+#[tactic(auto, unfolding(crate::specs::Events::start_words))]
 pub fn start_words(id: u64, offset: u64, m: OpenTag) -> EventWords
     ensures { in_order result ≡ start_words id offset m }
 {
@@ -86,6 +87,7 @@ pub fn end_words(e: WaitingEnd) -> EventWords
 }
 
 // A value.
+#[tactic(auto, unfolding(crate::specs::Events::value_words))]
 pub fn value_words(id: u64, offset: u64, value: TagValue) -> EventWords
     ensures { in_order result ≡ value_words id offset value }
 {
@@ -100,6 +102,7 @@ pub fn value_words(id: u64, offset: u64, value: TagValue) -> EventWords
 }
 
 // An event; m is the innermost open master after a Start.
+#[tactic(auto, unfolding(crate::specs::Events::event_words, crate::specs::Events::is_innermost))]
 fn event_words(m: OpenTag, e: Event) -> EventWords
     ensures { (d : TagDecoder) → is_innermost d e m → in_order result ≡ event_words d e }
 {

@@ -16,7 +16,7 @@ use table::shape::good_shape;
 use tag_parse::types::{EBMLSize, TagValue};
 
 // An event that is made without a call, or that a call has to be made.
-#[derive(Drop)]
+#[derive(Clone, Copy)]
 pub enum Quick {
     Slow,
     Data {
@@ -34,7 +34,7 @@ pub enum Quick {
 }
 
 // How many events and bytes there are then, and the record.
-#[derive(Drop)]
+#[derive(Clone, Copy)]
 pub struct Passed {
     pub count: usize,
     pub taken: usize,
@@ -67,6 +67,7 @@ fn quick_action(action: Action) -> Quick
 }
 
 // What is made of a decision on a record that was found good or not.
+#[tactic(auto, unfolding(crate::specs::Turns::quick_of))]
 fn quick_of(good: bool, decision: Decision) -> Quick
     ensures { result ≡ quick_of good decision }
 {

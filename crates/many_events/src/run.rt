@@ -23,6 +23,7 @@ fn one_call(eof: bool, entries: &[u64], parts: &[u64], d: TagDecoder, input: &[u
 }
 
 // Why calls in a row stop at this answer; after an event, where there is no room for another.
+#[tactic(auto, unfolding(crate::specs::Many::stop_of))]
 fn stop_of(answer: Answer) -> Stop
     ensures { result ≡ stop_of answer }
 {

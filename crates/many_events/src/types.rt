@@ -6,7 +6,7 @@ use decoder_rules::types::{Refusal, TagDecoder};
 pub const EVENT_WORDS: usize = 8;
 
 // Why calls in a row stop: there is no room for another event, or the first answer that is no event.
-#[derive(Drop)]
+#[derive(Clone, Copy)]
 pub enum Stop {
     Full,
     // so many bytes are missing, at least
@@ -16,7 +16,7 @@ pub enum Stop {
 }
 
 // How many events were handed out, how many bytes were taken for them, why the calls stop, and the record after them.
-#[derive(Drop)]
+#[derive(Clone, Copy)]
 pub struct Ran {
     pub count: usize,
     pub taken: usize,
