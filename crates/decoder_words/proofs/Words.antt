@@ -82,34 +82,34 @@ module _ (eof : Bool) (es ps : List ℕ) (d : TagDecoder) (s l : List ℕ) where
 module _ (w : List ℕ) {e : StoreError} (c : check_words w ≡ Refused e) where
   pub refused_setting : (set : TagDecoder → TagDecoder) → set_words set w ≡ (words_refused e, w)
   unfolding set_words
-  refused_setting set = sym (on_refused w refl c _ _)
+  refused_setting set = sym (on_refused w refl c (λ x. (done, decoder_words (set x))) (λ x. (words_refused x, w)))
 
   pub refused_decoding : (eof : Bool) (es ps s l : List ℕ) → decode_words eof es ps w s l ≡ (plain (words_refused e) 0 0 0 0, w, l)
   unfolding decode_words
-  refused_decoding eof es ps s l = sym (on_refused w refl c _ _)
+  refused_decoding eof es ps s l = sym (on_refused w refl c (λ x. ran_words (many_events eof es ps x s l)) (λ x. (plain (words_refused x) 0 0 0 0, w, l)))
 
   pub refused_recovery : (es ps s : List ℕ) → recover_words es ps w s ≡ (plain (words_refused e) 0 0 0 0, w)
   unfolding recover_words
-  refused_recovery es ps s = sym (on_refused w refl c _ _)
+  refused_recovery es ps s = sym (on_refused w refl c (λ x. searched_words (try_recover es ps x s)) (λ x. (plain (words_refused x) 0 0 0 0, w)))
 
   pub refused_storing : (b : List ℕ) → store_from_words w b ≡ (words_refused e, b)
   unfolding store_from_words
-  refused_storing b = sym (on_refused w refl c _ _)
+  refused_storing b = sym (on_refused w refl c (λ x. (acceptance_code (store_out x b).0, (store_out x b).1)) (λ x. (words_refused x, b)))
 
 -- ---- a decoder's words: a call is made on the record that they are
 
 module _ (w : List ℕ) (c : check_words w ≡ Accepted) where
   pub decoding_made : (eof : Bool) (es ps s l : List ℕ) → decode_words eof es ps w s l ≡ ran_words (many_events eof es ps (record_of w) s l)
   unfolding decode_words
-  decoding_made eof es ps s l = sym (on_accepted w refl c refl _ _)
+  decoding_made eof es ps s l = sym (on_accepted w refl c refl (λ x. ran_words (many_events eof es ps x s l)) (λ x. (plain (words_refused x) 0 0 0 0, w, l)))
 
   pub recovery_made : (es ps s : List ℕ) → recover_words es ps w s ≡ searched_words (try_recover es ps (record_of w) s)
   unfolding recover_words
-  recovery_made es ps s = sym (on_accepted w refl c refl _ _)
+  recovery_made es ps s = sym (on_accepted w refl c refl (λ x. searched_words (try_recover es ps x s)) (λ x. (plain (words_refused x) 0 0 0 0, w)))
 
   pub setting_made : (set : TagDecoder → TagDecoder) → set_words set w ≡ (done, decoder_words (set (record_of w)))
   unfolding set_words
-  setting_made set = sym (on_accepted w refl c refl _ _)
+  setting_made set = sym (on_accepted w refl c refl (λ x. (done, decoder_words (set x))) (λ x. (words_refused x, w)))
 
   -- a list without room for an event: nothing is done
   pub no_room : (eof : Bool) (es ps s l : List ℕ) → length l < event_size → decode_words eof es ps w s l ≡ (plain done 0 0 0 0, w, l)
@@ -142,7 +142,7 @@ module _ (w : List ℕ) (c : check_words w ≡ Accepted) where
   stored_words b h =
       let d = record_of w in
       let k : store_out d b ≡ (Accepted, bytes_of w) = cond_yes _ _ _ (eq-eqb (length b) block_length h) ∙ cond_yes _ _ _ (accepts w c).state ∙ ap (λ (o : List ℕ). (Accepted, bytes_of o)) (accepted_own w c) in
-      sym (on_accepted w refl c refl _ _) ∙ ap (λ (x : Acceptance × List ℕ). (acceptance_code x.0, x.1)) k
+      sym (on_accepted w refl c refl (λ x. (acceptance_code (store_out x b).0, (store_out x b).1)) (λ x. (words_refused x, b))) ∙ ap (λ (x : Acceptance × List ℕ). (acceptance_code x.0, x.1)) k
 
   -- and they are what is restored from that, in whatever words are lent
   pub restored_words_lem : Words64 w → (v : List ℕ) → length v ≡ word_count → restore_to_words v (bytes_of w) ≡ (done, w)

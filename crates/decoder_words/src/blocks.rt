@@ -22,6 +22,7 @@ pub fn store(words: &[u64], block: &mut [u8]) -> u64
 }
 
 // The decoder of the lent block in the lent words, whatever they held; a refusal writes nothing.
+#[tactic(auto, using(crate::proofs::Answered::restore_length, crate::proofs::Answered::restore_taken))]
 pub fn restore(words: &mut [u64], block: &[u8]) -> u64
     ensures { Gives result words.new (restore_to_words words.old block.now) }
 {

@@ -14,6 +14,7 @@ use stored_decoder::types::{Acceptance, StoreError, WORD_COUNT};
 use stored_decoder::words::{put_words, record_of};
 
 // A fresh decoder in the lent words, whatever they held.
+#[tactic(auto, using(crate::proofs::Answered::new_length, crate::proofs::Answered::new_written))]
 pub fn new(words: &mut [u64]) -> u64
     ensures { Gives result words.new (new_words words.old) }
 {

@@ -2,7 +2,7 @@
 
 // A code, and where a call asks for a number, that number.
 #[repr(C)]
-#[derive(Drop)]
+#[derive(Clone, Copy)]
 pub struct Number {
     pub code: u64,
     pub value: u64,
@@ -12,7 +12,7 @@ pub struct Number {
 // how many bytes are missing, at least; and of the element that refusal 23 names, which of ID (1), size (2) and bytes
 // (4) there are, where it starts, and these.
 #[repr(C)]
-#[derive(Drop)]
+#[derive(Clone, Copy)]
 pub struct Reply {
     pub code: u64,
     pub events: u64,

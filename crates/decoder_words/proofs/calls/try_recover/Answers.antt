@@ -1,0 +1,19 @@
+-- `decoder_words::calls::try_recover`, by what the check of the words answers. Assumes nothing.
+use Rattle.decoder_words.proofs.Answered.{taken_length, recovers, recover_refused}
+use Rattle.decoder_words.proofs.calls.try_recover.Goals as goal
+
+pub record_of-d-requires : goal.record_of-d-requires
+record_of-d-requires c =
+    taken_length c.args.words.now c.check_words.ensures c.in-Accepted.is
+
+pub put_words-requires : goal.put_words-requires
+put_words-requires c =
+    taken_length c.args.words.now c.check_words.ensures c.in-Accepted.is
+
+pub returns-in-Accepted : goal.returns-in-Accepted
+returns-in-Accepted c =
+    recovers c.args.words.now c.check_words.ensures c.in-Accepted.is c.record_of-d.ensures c.args.entries.now c.args.parts.now c.args.input.now c.try_recover-r.ensures c.put_words.ensures c.search_reply.ensures
+
+pub returns-in-Refused : goal.returns-in-Refused
+returns-in-Refused c =
+    recover_refused c.args.words.now c.check_words.ensures c.in-Refused.is c.args.entries.now c.args.parts.now c.args.input.now c.words_refused.ensures c.plain.ensures
