@@ -1,5 +1,5 @@
 -- Before the end of input the decoder is not finished: no call before it answers Finished, and none marks the record
--- so. The end of input asks for no more, and where `decode` answers at once it answers the same. Assumes nothing.
+-- so. The end of input asks for no more. Assumes nothing.
 use Prim.Native.Nat.{ℕ}
 use mathlib.Core.Path.{◌≡◌, refl, sym, ap, ◌∙◌}
 use mathlib.Core.Bool.{false, false≢true, true≢false}
@@ -22,13 +22,6 @@ loud_asks_no_more (answer.NeedMore missing) q = absurd (true≢false q)
 loud_asks_no_more answer.Finished q = refl
 loud_asks_no_more (answer.Refused r) q = refl
 
--- and one that does not ask for more, nor is Finished, is such an answer
-is_loud : (a : Answer) → needs_more a ≡ false → (a ≡ answer.Finished → ⊥) → is_quiet a ≡ false
-is_loud (answer.Event e) m f = refl
-is_loud (answer.NeedMore missing) m f = m
-is_loud answer.Finished m f = absurd (f refl)
-is_loud (answer.Refused r) m f = refl
-
 module _ (es ps : List ℕ) (d : TagDecoder) (s : List ℕ) where
   -- a call before the end of input does not answer Finished
   pub never_finished : d.finished ≡ false → (decode es ps d s).answer ≡ answer.Finished → ⊥
@@ -50,11 +43,3 @@ module _ (es ps : List ℕ) (d : TagDecoder) (s : List ℕ) where
   -- the end of input asks for no more
   pub eof_asks_no_more : needs_more (decode_eof es ps d s).answer ≡ false
   eof_asks_no_more = exit_asks_no_more (eof_exits es ps d s)
-
-  exit_as_decoded : {r : Decoded} → EofExit es ps d s r → is_quiet (decode es ps d s).answer ≡ false → r ≡ decode es ps d s
-  exit_as_decoded (as_decoded q) k = refl
-  exit_as_decoded (at_end q x) k = absurd (false≢true (sym k ∙ q))
-
-  -- before it, where `decode` does not ask for more, the end of input answers as `decode` does
-  pub eof_as_decoded : d.finished ≡ false → needs_more (decode es ps d s).answer ≡ false → decode_eof es ps d s ≡ decode es ps d s
-  eof_as_decoded f m = exit_as_decoded (eof_exits es ps d s) (is_loud (decode es ps d s).answer m (never_finished f))

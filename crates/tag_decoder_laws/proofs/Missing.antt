@@ -1,12 +1,12 @@
--- Document 02, CR 1, of the decoder's calls: "With fewer further bytes the answer is still need-more, unless 12 comes
--- first." And whether as many bytes as are missing are ever enough. Assumes nothing.
-use Prim.Native.Nat.{ℕ, ◌+◌, ◌≤◌, ◌<◌}
+-- Document 02, CR 1, of the decoder's calls: how many bytes are missing behind further ones, and whether as many bytes as
+-- are missing are ever enough. Assumes nothing.
+use Prim.Native.Nat.{ℕ, ◌+◌, ◌≤◌}
 use mathlib.Core.Path.{◌≡◌, refl, sym, ap, ◌∙◌}
 use mathlib.Core.Bool.{Bool, true, false}
 use mathlib.Core.List.{List, ◌++◌}
 use mathlib.Core.Logic.{◌⊎◌, inl, inr}
 use native.Mathlib.Omega.{arith}
-use borrow.Author.Tests.{lt-ltb, ltb-false}
+use borrow.Author.Tests.{ltb-false}
 use lib.Dec.{ltb}
 use lib.ListN.{length}
 use Rattle.tools.specs.Bytes.{Octets}
@@ -38,13 +38,6 @@ module _ (es ps : List ℕ) (d : TagDecoder) (s u : List ℕ) (byte : Octets (s 
           rw (need_more_changes_nothing es ps d s u byte open_still near q, decode_missing_decided es ps d s, decode_missing_decided es ps d (s ++ u))
           (decision_missing es ps d s u (octets_front s u byte 0) open_still near)
       go false q = let none : missing_in (decode es ps d s).answer ≤ 0 = ltb-false 0 _ (sym (answer_asks es ps d s) ∙ q) in omega arith
-
-  -- so it is need-more still
-  pub fewer_still_asks : length u < missing_in (decode es ps d s).answer → needs_more (decode es ps (decode es ps d s).state (s ++ u)).answer ≡ true
-  fewer_still_asks few =
-      let left = answer_missing in
-      let some : 0 < missing_in (decode es ps (decode es ps d s).state (s ++ u)).answer = omega arith in
-      answer_asks es ps (decode es ps d s).state (s ++ u) ∙ lt-ltb 0 _ some
 
 -- some further bytes, as many as are missing, bring another answer, or the call is stuck; 12 does not come
 pub answer_enough : (es ps : List ℕ) (d : TagDecoder) (s : List ℕ) → Octets s → d.position + (length s + missing_in (decode es ps d s).answer) ≤ farthest
