@@ -4,7 +4,7 @@ use mathlib.Core.Path.{◌≡◌, refl, sym, ap, ◌∙◌}
 use mathlib.Core.Bool.{Bool, true, false, cond, ◌&&◌, ◌||◌}
 use mathlib.Core.List.{List}
 use native.Mathlib.Omega.{arith}
-use borrow.Author.Tests.{eq-eqb, ne_eqb, le-leb, lt-leb, eqb-true, eqb-false}
+use borrow.Author.Tests.{eq-eqb, ne_eqb, le-leb, lt-leb, leb-true, leb-false, eqb-true, eqb-false}
 use lib.Dec.{leb, eqb}
 use lib.ListN.{length, take, drop, length-drop}
 use lib.Seq.{length-take-le}
@@ -132,3 +132,29 @@ module _ (want : TagDataType) where
               first : (t : Bool) → eqb kind 1 ≡ t → (eqb kind 1 || (eqb kind 2 || eqb kind 5)) ≡ good
               first true q = ap (λ (b : Bool). b || (eqb kind 2 || eqb kind 5)) q ∙ ask_unsigned (eqb-true kind 1 q)
               first false q = ap (λ (b : Bool). b || (eqb kind 2 || eqb kind 5)) q ∙ second (eqb kind 2) refl q
+
+    -- the same as the code tests it
+    pub tested_outside : leb (offset + n) (length vals) ≡ false → false ≡ good
+    tested_outside h = ask_outside (leb-false _ _ h)
+
+    pub tested_kind : leb (offset + n) (length vals) ≡ true → (type_word want ≡ kind → ⊥) → false ≡ good
+    tested_kind h other = ask_kind (leb-true _ _ h) other
+
+    module _ (h : leb (offset + n) (length vals) ≡ true) (same : type_word want ≡ kind) where
+      pub tested_text_bad : kind ≡ 3 → is_text (take n (drop offset vals)) ≡ false → false ≡ good
+      tested_text_bad e t = ask_text_bad (leb-true _ _ h) same e t
+
+      pub tested_text : kind ≡ 3 → is_text (take n (drop offset vals)) ≡ true → leb n greatest_size ≡ good
+      tested_text e t = ask_text (leb-true _ _ h) same (leb n greatest_size) e t refl
+
+      pub tested_binary : kind ≡ 4 → leb n greatest_size ≡ good
+      tested_binary e = ask_binary (leb-true _ _ h) same (leb n greatest_size) e refl
+
+      pub tested_short : (kind ≡ 3 → ⊥) → (kind ≡ 4 → ⊥) → (n ≡ 8 → ⊥) → false ≡ good
+      tested_short a b c = ask_short (leb-true _ _ h) same a b c
+
+      pub tested_number : n ≡ 8 → (kind ≡ 3 → ⊥) → (kind ≡ 4 → ⊥) → (eqb kind 1 || (eqb kind 2 || eqb kind 5)) ≡ good
+      tested_number w a b = ask_number (leb-true _ _ h) same w (eqb kind 1 || (eqb kind 2 || eqb kind 5)) a b refl
+
+-- each answer of `good_value`
+pub ruleset answers_of_value = (tested_outside, tested_kind, tested_text_bad, tested_text, tested_binary, tested_short, tested_number)

@@ -30,5 +30,6 @@ pub mod Comes
 pub mod Telling
 pub mod Reading
 pub mod InRange
+pub mod NeedsMore
 pub mod RoundTrip
 pub mod ReadBackExamples

@@ -1,6 +1,6 @@
 -- The central induction: a run of elements that is well placed is read as its events, whatever stands after it, and
 -- leaves the open masters as they were, with so many children more in the innermost. Assumes nothing.
-use Prim.Native.Nat.{ℕ, suc, ◌+◌, ◌-◌, ◌^◌, ◌≤◌, ◌<◌}
+use Prim.Native.Nat.{ℕ, suc, ◌+◌, ◌^◌, ◌≤◌, ◌<◌}
 use mathlib.Core.Path.{◌≡◌, refl, sym, ap, subst, ◌∙◌}
 use mathlib.Core.Bool.{Bool, true, false, false≢true, true≢false}
 use mathlib.Core.List.{List, [], ◌∷◌, ◌++◌, map, append_assoc}
@@ -38,7 +38,7 @@ use Rattle.decoder_rules.specs.declared.types.Event.TheVariants as event
 use Rattle.decoder_rules.specs.declared.types.TagDecoder.{TagDecoder}
 use Rattle.tag_writer.specs.Counts.{children_in}
 use Rattle.tag_writer.specs.Document.{Value, Element, value, master, Run, none, then, payload, header_bytes, size_of_element, size_of_run, element_bytes, run_bytes}
-use Rattle.tag_writer.specs.Items.{start, end, datum}
+use Rattle.tag_writer.specs.Items.{start, datum}
 use Rattle.tag_writer.specs.ReadBack.{is_taken}
 use Rattle.tag_writer.specs.Write.{anywhere, goes_in, good_element, good_run}
 use Rattle.tag_writer.proofs.Asked.{asked_value, asked_master, asked_run}

@@ -28,7 +28,6 @@ use Rattle.decoder_rules.specs.declared.types.Decoded.{Decoded}
 use Rattle.decoder_rules.specs.declared.types.Event.{Event}
 use Rattle.decoder_rules.specs.declared.types.Event.TheVariants as event
 use Rattle.decoder_rules.specs.declared.types.TagDecoder.{TagDecoder}
-use Rattle.decoder_rules.proofs.Exits.{Admitted, no_byte}
 use Rattle.tag_writer.specs.Counts.{children_in, element_counts, run_counts}
 use Rattle.tag_writer.specs.Document.{Value, unsigned, integer, text, binary, float, wrong, Element, value, master, Run, none, then, payload, header_bytes, size_of_element, size_of_run, element_bytes, run_bytes}
 use Rattle.tag_writer.specs.Items.{Mark, start, end, datum, marks_of, matched, run_of, element_marks, run_marks}
@@ -42,8 +41,9 @@ use Rattle.tag_writer.proofs.Ends.{Stands, stands_clear}
 use Rattle.tag_writer.proofs.InRange.{FitsMarks, all_taken, fits_run, marks_fit}
 use Rattle.tag_writer.proofs.Lengths.{element_length, run_length}
 use Rattle.tag_writer.proofs.Marks.{matched_marks, size_run}
+use Rattle.tag_writer.proofs.NeedsMore.{needs_more_lem}
 use Rattle.tag_writer.proofs.Reading.{range_at, element_events, run_events, Ran, runs_run, shape}
-use Rattle.tag_writer.proofs.Standing.{standing, fresh_stands, All, first_passes, decode_plain}
+use Rattle.tag_writer.proofs.Standing.{standing, fresh_stands, All}
 use Rattle.tag_writer.proofs.Telling.{Tells, tells_calls}
 use Rattle.tag_writer.proofs.ValueBack.{value_told}
 
@@ -125,21 +125,10 @@ module _ (es ps : List ℕ) (good : good_shape es ps ≡ true) (strict b : Bool)
   abbrev last : TagDecoder
   last = standing strict b n [] []
 
-  first : Admitted es ps last []
-  unfolding All every
-  first = first_passes es ps good strict b n 0 [] [] [] tt refl (omega arith) (omega arith) (omega arith)
-
-  -- no byte: need more
-  pub needs_more_lem : decode es ps last [] ≡ gives (answer.NeedMore least_header) 0 last
-  unfolding move first_index
-  needs_more_lem =
-      decode_plain es ps last []
-      (no_byte (record { reading = record { admitted = first; none_waiting = refl; unfinished = refl }; none_full = omega arith }) refl)
-
-  -- and the end of input: the finish
+  -- the end of input, where no byte is left: the finish
   pub finishes : (decode_eof es ps last []).answer ≡ answer.Finished
   unfolding decode_eof end_of_input close_all finish every first_index
-  finishes = ap (λ (r : Decoded). (ended_or (table_of es ps) [] r r.answer).answer) needs_more_lem
+  finishes = ap (λ (r : Decoded). (ended_or (table_of es ps) [] r r.answer).answer) (needs_more_lem es ps good strict b n near)
 
 -- ---- a document that is good
 

@@ -126,6 +126,7 @@ fn is_number(kind: u64) -> bool
 }
 
 // Whether a value is of the kind that the table gives its ID, and small enough; text is UTF-8.
+#[tactic(auto, using(crate::proofs::AskLaws::answers_of_value))]
 fn good_value(want: TagDataType, values: &[u8], kind: u64, offset: u64, n: u64) -> bool
     ensures { result ≡ (is_of_kind want (value_at values.now kind offset n) && leb (length (payload (value_at values.now kind offset n))) greatest_size) }
 {

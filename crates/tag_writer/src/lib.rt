@@ -1,4 +1,5 @@
 // The writer: a list of Starts, Ends and values becomes an EBML document with every size filled in. Document 02, CR 2.
+#![tactic(auto)]
 
 mod asking;
 pub mod errors;

@@ -7,7 +7,7 @@ pub const MOST_ITEMS: usize = 512;
 pub const GREATEST_SIZE: u64 = 4_000_000_000;
 
 // The refusals 40 to 44, in their order.
-#[derive(Drop)]
+#[derive(Clone, Copy)]
 pub enum WriteError {
     TableFails,
     TooManyItems,
@@ -17,7 +17,7 @@ pub enum WriteError {
 }
 
 // The length of the document, or why none was written.
-#[derive(Drop)]
+#[derive(Clone, Copy)]
 pub enum Wrote {
     Written(usize),
     Refused(WriteError),
@@ -25,7 +25,7 @@ pub enum Wrote {
 
 // The bytes of an element or of a run of elements, the first item after it, and whether every master in it is of a size
 // that may be written.
-#[derive(Drop)]
+#[derive(Clone, Copy)]
 pub struct Sized {
     pub size: u64,
     pub next: usize,
