@@ -7,7 +7,6 @@ use lib.ListN.{take, drop}
 use Rattle.decoder_rules.specs.Numbers.{answer_refusal}
 use Rattle.guarantees.proofs.Computing.{history_computes}
 use Rattle.table.specs.Table.{Entry, table_of}
-use Rattle.decoder_rules.specs.EndOfInput.{finish}
 use Rattle.decoder_rules.specs.declared.types.Optional.TheVariants.{Nothing, Number}
 use Rattle.table.specs.BenchTable.{bench_entries, bench_parts}
 use Rattle.guarantees.specs.Calls.{Call, decoding, ending, recovering, history}

@@ -29,7 +29,7 @@ use Rattle.decoder_rules.proofs.MoveEffects.{opens-length, waits-length}
 use Rattle.decoder_rules.specs.Settings.{is_finished}
 use Rattle.guarantees.specs.Calls.{Call, decoding, ending, recovering, allow, strictly, limit, lent, Response, answered, searched, silent, response_to, record_after, history, Lent, refusal_of}
 use Rattle.guarantees.specs.Settling.{is_strict_after}
-use Rattle.guarantees.specs.History.{Started, declared_end, after_response, after_declared, starts_open, starts_declared, parents_left, position, test_after, child_test_on, child_test_never_off, is_no_recovery, never_recovered}
+use Rattle.guarantees.specs.History.{Started, declared_end, after_response, after_declared, starts_open, starts_declared, parents_left, test_after, child_test_on, child_test_never_off, is_no_recovery, never_recovered}
 use Rattle.guarantees.specs.Promises.{event_kind, event_id, element_offset, Runs, last_response, Answers, open_at, left_at, position_at, HeaderOf, HeaderAlone, WholeData, EndMatches, EndsInside}
 use Rattle.guarantees.proofs.Tied.{parent_of, as_end, named, as_started, stack, Tied}
 use Rattle.guarantees.proofs.Steps.{reaches_to, all_reach, Ends, ElementFacts, EventFacts, RefusalFacts, no_starts}

@@ -55,7 +55,7 @@ use Rattle.decoder_rules.specs.declared.types.Answer.TheVariants as answer
 use Rattle.decoder_rules.specs.declared.types.Check.TheVariants.{Pass}
 use Rattle.decoder_rules.specs.declared.types.Decoded.{Decoded}
 use Rattle.decoder_rules.specs.declared.types.Event.{Event}
-use Rattle.decoder_rules.specs.declared.types.Event.TheVariants.{Start, Data}
+use Rattle.decoder_rules.specs.declared.types.Event.TheVariants.{Start}
 use Rattle.decoder_rules.specs.declared.types.Note.TheVariants.{Settle}
 use Rattle.decoder_rules.specs.declared.types.Settings.{Settings}
 use Rattle.decoder_rules.specs.declared.types.TagDecoder.{TagDecoder}

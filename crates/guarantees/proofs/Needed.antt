@@ -5,7 +5,6 @@ use mathlib.Core.Path.{◌≡◌, refl}
 use mathlib.Core.List.{List, [], ◌∷◌}
 use Rattle.guarantees.proofs.Computing.{history_computes}
 use Rattle.table.specs.Check.{check_table}
-use Rattle.decoder_rules.specs.EndOfInput.{finish}
 use Rattle.decoder_rules.specs.declared.types.Optional.TheVariants.{Nothing}
 use Rattle.table.specs.declared.types.Rule.TheVariants.{GlobalInMaster, NoMaster}
 use Rattle.table.specs.declared.types.Checked.TheVariants.{Fault}

@@ -41,7 +41,7 @@ use Rattle.decoder_rules.specs.declared.types.Note.TheVariants.{NoNote, Settle}
 use Rattle.decoder_rules.specs.declared.types.Settings.{Settings}
 use Rattle.decoder_rules.specs.declared.types.TagDecoder.{TagDecoder}
 use Rattle.basics.proofs.Every.{every_drop, every_map, every_front, every_reversed}
-use Rattle.basics.proofs.Bools.{and_both, both, not-false}
+use Rattle.basics.proofs.Bools.{and_both, not-false}
 use Rattle.decoder_rules.proofs.GoodState.{is_good_open}
 use Rattle.decoder_rules.proofs.MoveEffects.{opens-length, waits-length}
 use Rattle.decoder_rules.proofs.MoveLaws.{noted_settings, noted-position, is_no_event, with_note, decode_stays}

@@ -2,7 +2,7 @@
 -- that the check passes. What closes by position stands inside a master that is full, or is that one; what closes by the
 -- next ID is ended by it, strictly by the RFC's rule; what closes at the end of input does so with no byte left. And each
 -- End that waits is of a master that closed at an earlier call. Assumes nothing.
-use Prim.Native.Nat.{ℕ, zero, suc, ◌+◌, ◌-◌, ◌≤◌, ◌<◌}
+use Prim.Native.Nat.{ℕ, zero, suc, ◌+◌, ◌≤◌, ◌<◌}
 use mathlib.Core.Path.{◌≡◌, refl, sym, ap, ◌∙◌, subst}
 use mathlib.Core.Bool.{Bool, true, false, not, true≢false, false≢true}
 use mathlib.Core.List.{List, [], ◌∷◌, ◌++◌, map, reverse, append_assoc, map-append, reverse-append, reverse-cons, head-eq_of_cons-eq, tail-eq_of_cons-eq, Memᴰ}

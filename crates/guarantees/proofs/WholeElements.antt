@@ -2,8 +2,8 @@
 -- never off and every Start was of known size: each element at the top begins where the one before it ended, and the
 -- finish comes at the end of the last, with all of the record taken. Assumes nothing.
 use Prim.Native.Nat.{ℕ}
-use mathlib.Core.Path.{◌≡◌, refl, sym, ap, ◌∙◌, subst}
-use mathlib.Core.Bool.{Bool, true, false}
+use mathlib.Core.Path.{◌≡◌, sym, ap, ◌∙◌, subst}
+use mathlib.Core.Bool.{Bool, true}
 use mathlib.Core.List.{List, [], ◌∷◌, ◌++◌}
 use lib.ListN.{length, drop}
 use Rattle.basics.proofs.Bools.{both, absurd_eq}
@@ -16,11 +16,11 @@ use Rattle.tag_parse.proofs.Headers.{header_local}
 use Rattle.decoder_rules.specs.declared.types.Answer.TheVariants as answer
 use Rattle.decoder_rules.specs.declared.types.Event.TheVariants as event
 use Rattle.decoder_rules.specs.declared.types.Optional.{Optional}
-use Rattle.decoder_rules.specs.declared.types.Optional.TheVariants.{Nothing, Number}
+use Rattle.decoder_rules.specs.declared.types.Optional.TheVariants.{Number}
 use Rattle.guarantees.specs.Calls.{Call, lent, Response, answered, searched, silent, record_after, history, Lent}
 use Rattle.guarantees.specs.History.{Started, declared_end, header_end, outermost_end, test_after, child_test_never_off}
 use Rattle.guarantees.specs.Promises.{Runs, last_response, Answers, open_at, left_at, position_at}
-use Rattle.guarantees.specs.CutRecords.{InOrder, RowTo, front, after, ever_started, every_known, top_by, last_top_end}
+use Rattle.guarantees.specs.CutRecords.{InOrder, RowTo, front, after, every_known, top_by, last_top_end}
 use Rattle.guarantees.proofs.AnyCalls.{ResponseFacts, promised_after}
 use Rattle.guarantees.proofs.InOrder.{lends_front, in_order_no_recovery, finish_reads_all}
 use Rattle.guarantees.proofs.TopLevel.{TopAt, outside, inside, known_before, top_at, finish_at_the_end}

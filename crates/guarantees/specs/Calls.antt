@@ -8,10 +8,8 @@ use Rattle.decoder_rules.specs.Moving.{decode}
 use Rattle.decoder_rules.specs.EndOfInput.{decode_eof}
 use Rattle.decoder_rules.specs.Recovery.{try_recover}
 use Rattle.decoder_rules.specs.declared.types.Answer.{Answer}
-use Rattle.decoder_rules.specs.declared.types.Answer.TheVariants as answer
 use Rattle.decoder_rules.specs.declared.types.Optional.{Optional}
 use Rattle.decoder_rules.specs.declared.types.Search.{Search}
-use Rattle.decoder_rules.specs.declared.types.Search.TheVariants as search
 use Rattle.decoder_rules.specs.declared.types.TagDecoder.{TagDecoder}
 use Rattle.decoder_rules.specs.Settings.{allowing, reading, limited_to}
 

@@ -1,6 +1,6 @@
 -- A run of results: calls one after the other, each on the record that the one before it left, with what each returned.
 -- Which results a routine may return is its contract alone: by value, `Post`, the contract as the checker reads it; with
--- the record lent, the contract's own words, `ReturnsAndLeaves`, since the checker makes no reading of those.
+-- the record lent, the contract's own words, `ReturnsAndLeaves`.
 use Rattle.std.specs.Prelude.{ℕ, ◌≡◌, Bool, List, [], ◌∷◌}
 use borrow.Fn.Kinds.{Dens, ended_of}
 use contract.Lifetimes.{Lfts}

@@ -1,2 +1,3 @@
 // What a checked table guarantees over any calls: definitions in specs/, promises in proofs/. There is no code of its
 // own here.
+#![tactic(auto)]
