@@ -1,7 +1,7 @@
 -- Document 02, CR 14: a record read back with every count 0 answers any calls as the record would have, but for the
 -- counts in Ends; these are of the events since the reading for the masters then open and the Ends then waiting, and for
 -- every master that starts later as without the reading. Assumes nothing.
-use Prim.Native.Nat.{ℕ, ◌+◌, ◌<◌}
+use Prim.Native.Nat.{ℕ, ◌<◌}
 use mathlib.Core.Path.{◌≡◌, sym, ap, ◌∙◌, subst}
 use mathlib.Core.Bool.{Bool, true, false}
 use mathlib.Core.List.{List, [], ◌∷◌, ◌++◌, map, reverse, map-append, map-map}

@@ -1,5 +1,5 @@
 -- What is compared after a move does not ask for more than what was compared before it. Assumes nothing.
-use Prim.Native.Nat.{ℕ, ◌+◌, ◌-◌, ◌≤◌, ◌<◌}
+use Prim.Native.Nat.{ℕ, ◌+◌, ◌≤◌, ◌<◌}
 use mathlib.Core.Path.{◌≡◌, refl, sym, ap, ◌∙◌}
 use mathlib.Core.Bool.{Bool, true, false, cond}
 use mathlib.Core.List.{List, [], ◌∷◌, ◌++◌, map, reverse, map-append, reverse-reverse}
@@ -61,9 +61,9 @@ module _ (x : Extent) where
   unfolding seen_end
   end_twice e = rw (count_twice e.count)
 
-  no_end : g no_end ≡ no_end
+  no_end_lem : g no_end ≡ no_end
   unfolding seen_end
-  no_end = rw count_none
+  no_end_lem = rw count_none
 
   -- of no master nothing is left out
   pub no_master_lem : f no_tag ≡ no_tag
@@ -151,7 +151,7 @@ module _ (x : Extent) where
     first_seen : 0 < d.waiting_count → g (get_or e.waiting 0 no_end) ≡ g (get_or d.waiting 0 no_end)
     first_seen some =
         let h : 0 < e.waiting_count = unfold seen_record in some in
-        let here : get_or (waits e) 0 no_end ≡ g (get_or (waits d) 0 no_end) = ap (λ (l : List WaitingEnd). get_or l 0 no_end) (seen-waits x d full) ∙ map_at g no_end no_end (waits d) 0 in
+        let here : get_or (waits e) 0 no_end ≡ g (get_or (waits d) 0 no_end) = ap (λ (l : List WaitingEnd). get_or l 0 no_end) (seen-waits x d full) ∙ map_at g no_end no_end_lem (waits d) 0 in
         ap g (sym (get_or-take e.waiting_count e.waiting 0 no_end h) ∙ here)
         ∙ end_twice (get_or (waits d) 0 no_end)
         ∙ ap g (get_or-take d.waiting_count d.waiting 0 no_end some)
@@ -196,7 +196,7 @@ module _ (x : Extent) where
 
     closed_first : (n : ℕ) → g (get_or (ends_from e n) 0 no_end) ≡ g (get_or (ends_from d n) 0 no_end)
     closed_first n =
-        ap (λ (l : List WaitingEnd). g (get_or l 0 no_end)) (ends_from_lem n) ∙ ap g (map_at g no_end no_end (ends_from d n) 0) ∙ end_twice (get_or (ends_from d n) 0 no_end)
+        ap (λ (l : List WaitingEnd). g (get_or l 0 no_end)) (ends_from_lem n) ∙ ap g (map_at g no_end no_end_lem (ends_from d n) 0) ∙ end_twice (get_or (ends_from d n) 0 no_end)
 
     -- a child is counted
     counted-opens : map f (opens (counted e)) ≡ map f (opens (counted d))

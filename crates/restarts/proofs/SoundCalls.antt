@@ -45,7 +45,7 @@ use Rattle.decoder_rules.proofs.MoveEffects.{Arrays, with_notes_arrays, settled_
 use Rattle.decoder_rules.proofs.MoveLaws.{with_note, noted-position}
 use Rattle.decoder_rules.proofs.MovesKeepGoodState.{with_notes_good, handed_good, opened_good, closed_good, grown_good}
 use Rattle.decoder_move.specs.Applies.{NoteApplies, ActionApplies}
-use Rattle.decoder_move.proofs.DecisionApplies.{decide_applies, note_none, note_settles, hands_out, closes, starts as start_fits, passes_on}
+use Rattle.decoder_move.proofs.DecisionApplies.{decide_applies, note_none, note_settles, closes, starts as start_fits, passes_on}
 use Rattle.tag_decoder.proofs.Recovering.{step7_applies, noted_good}
 use Rattle.guarantees.specs.Calls.{Call, decoding, ending, recovering, allow, strictly, limit, lent, next}
 use Rattle.guarantees.proofs.Decided.{Small}

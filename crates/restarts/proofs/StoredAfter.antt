@@ -27,7 +27,7 @@ use Rattle.stored_decoder.proofs.FromLayout1.{restore_layout1_lem}
 use Rattle.stored_decoder.proofs.Restoring.{restore_store}
 use Rattle.guarantees.specs.Calls.{Call, next, Step, step_of, record_after, history, Lent}
 use Rattle.guarantees.proofs.EmptyPlaces.{tidy_after}
-use Rattle.restarts.specs.Restarts.{Turn, calling, restarting, restarted, calls_of, record_through, history_through, LentThrough, RestartsUnseen, ReadFromLayout1}
+use Rattle.restarts.specs.Restarts.{Turn, calling, restarting, calls_of, record_through, history_through, LentThrough, RestartsUnseen, ReadFromLayout1}
 use Rattle.restarts.specs.Comparing.{but_counts, seen_master, seen_end, Sound, seen_record, without_counts}
 use Rattle.restarts.proofs.CountsSince.{read_tidy}
 use Rattle.restarts.proofs.RunsInParts.{sound_after}
