@@ -151,7 +151,7 @@ abbrev pub last_or : ℕ → List Call → List Call → List Call
 last_or zero made others = made
 last_or (suc k) made others = others
 
--- the calls of `one_by_one_lem` on the words w, latest first, and the calls cs that were made before them
+-- the calls of `one_by_one` on the words w, latest first, and the calls cs that were made before them
 unfoldable pub calls_made : Bool → List ℕ → List ℕ → ℕ → List ℕ → List ℕ → List Call → List Call
 calls_made eof es ps zero w s cs = cs
 calls_made eof es ps (suc n) w s cs =
