@@ -1,61 +1,85 @@
-// Standard input, read until there is something to say of it. No contract can say which bytes a read gives: the work on
-// them is in functions on slices. And the arguments that the programs share.
+// Standard input, read until there is something to say of it. No contract can say which bytes a read of it gives: the
+// work on them is in functions on slices. And the arguments that the programs share, and how they tell that they failed.
+#![tactic(auto)]
 
 pub mod arguments;
+pub mod telling;
 
-ghost use Rattle.std.specs.Prelude.{length};
-ghost use Rattle.libc.specs.Io.{Moved, Status};
+ghost use Rattle.std.specs.Prelude.{◌≢◌, ◌≤◌, ◌<◌, ◌≡◌, length, take, pos, IfOk, IfErr, OnErr, IsFalse};
+ghost use Rattle.std.specs.Io.KnownBytes.{Consumes, IsAtEnd, Keeps};
+ghost use Rattle.std.specs.IoError.{error_kind};
 
-use libc::types::timespec;
-use libc::{EAGAIN, EINTR, STDIN_FILENO};
+use std::io;
+use std::io::{ErrorKind, Read};
+use std::rt::Clock;
+use std::time::Duration;
 
 // A pause is a thousandth of a second, in nanoseconds.
-const PAUSE: i64 = 1_000_000;
+const PAUSE: u64 = 1_000_000;
 
-// Sleeps for this time, or until a signal comes: 0, or -1.
-fn sleep_for(asked: timespec) -> i32
-    ensures { Status result }
+// Sleeps for this time: 0. A signal does not cut it short.
+fn sleep_for<C: Clock>(clock: &C, asked: Duration) -> i32
+    ensures { result ≡ pos 0 }
 {
-    let time = asked;
-    let mut left = asked;
-    libc::nanosleep(&time, &mut left)
+    clock.sleep(asked);
+    0
 }
 
 // A pause.
-fn pause() {
-    let asked = timespec {
-        tv_sec: 0,
-        tv_nsec: PAUSE,
-    };
-    sleep_for(asked);
+fn pause<C: Clock>(clock: &C) {
+    let asked = Duration::from_nanos(PAUSE);
+    sleep_for(clock, asked);
 }
 
 // Whether a read that failed with this error is made again: one that a signal interrupted, at once, and one of an input
 // that has nothing yet, after a pause.
-fn is_made_again(error: i32) -> bool {
-    if error == EAGAIN {
-        pause();
+fn is_made_again<C: Clock>(clock: &C, error: &io::Error) -> bool
+    ensures interrupted { IsFalse result → error_kind error.now ≢ ErrorKind.Interrupted }
+    ensures not_ready { IsFalse result → error_kind error.now ≢ ErrorKind.WouldBlock }
+{
+    let kind = error.kind();
+    if kind == ErrorKind::WouldBlock {
+        pause(clock);
         return true;
     }
-    error == EINTR
+    kind == ErrorKind::Interrupted
 }
 
-// One read of standard input, made again until it was not interrupted and the input had something to give or had ended:
-// how many bytes it put at the front of the lent ones, 0 at the end of input, or -1 where it cannot be read, which
-// errno then tells. Nothing says that an input comes, so the reads are counted down from a number that no run uses up.
-pub fn read_input(space: &mut [u8]) -> isize
-    ensures { Moved (length space.old) result }
+// What is answered after more reads than any run makes.
+fn too_many_reads() -> io::Error
+    ensures interrupted { error_kind result ≢ ErrorKind.Interrupted }
+    ensures not_ready { error_kind result ≢ ErrorKind.WouldBlock }
+{
+    io::Error::from(ErrorKind::TimedOut)
+}
+
+// One read of an input, made again until it was not interrupted and the input had something to give or had ended: how
+// many bytes it put at the front of the lent ones, 0 at the end of input, or why it cannot be read. Of an input whose
+// bytes are known, they are the next ones, and no read that is made again loses any. Nothing says that an input comes, so
+// the reads are counted down from a number that no run uses up.
+pub fn read_input<R: Read, C: Clock>(
+    input: &mut R,
+    clock: &C,
+    space: &mut [u8],
+) -> io::Result<usize>
+    ensures moved { IfOk result (λ n. n ≤ length space.old) }
+    ensures given { IfOk result (λ n. Consumes (R.remaining input.old) (R.remaining input.new) (take n space.new)) }
+    ensures end { IfOk result (λ n. n ≡ 0 → 0 < length space.old → IsAtEnd (R.remaining input.new)) }
+    ensures kept { OnErr result (Keeps (R.remaining input.old) (R.remaining input.new)) }
+    ensures interrupted { IfErr result (λ e. error_kind e ≢ ErrorKind.Interrupted) }
+    ensures not_ready { IfErr result (λ e. error_kind e ≢ ErrorKind.WouldBlock) }
 {
     let mut reads_left = u64::MAX;
     while 0 < reads_left {
-        let got = libc::read(STDIN_FILENO, space);
-        if 0 <= got {
-            return got;
-        }
-        if !is_made_again(os::errno()) {
-            return -1;
+        match input.read(space) {
+            Ok(got) => return Ok(got),
+            Err(error) => {
+                if !is_made_again(clock, &error) {
+                    return Err(error);
+                }
+            }
         }
         reads_left -= 1;
     }
-    -1
+    Err(too_many_reads())
 }
