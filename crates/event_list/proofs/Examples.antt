@@ -8,7 +8,6 @@ use mathlib.Core.List.{List, [], ◌∷◌, ◌++◌, map}
 use lib.IntN.{negsuc}
 use lib.ListN.{take, drop, replicate}
 use Rattle.decoder_rules.proofs.Computing.{rules_compute}
-use Rattle.basics.specs.Lists.{every}
 use Rattle.event_list.specs.Line as lines
 use Rattle.numerals.specs.Numeral.{digits, places, hex, hex16, decimal, signed_decimal}
 use Rattle.event_list.specs.Computed.{text_lines}

@@ -18,7 +18,7 @@ use Rattle.spec_util.specs.declared.types.OpenTag.{OpenTag}
 use Rattle.tag_parse.specs.declared.types.TagValue.TheVariants.{UnsignedInt, Utf8, Float, Raw}
 use Rattle.decoder_rules.specs.Record.{fresh, with_open, with_notes}
 use Rattle.decoder_rules.specs.Settings.{allowing}
-use Rattle.decoder_rules.specs.Run.{Named, nothing, cut, Told, event, need_more, finish, refusal, Call, Calls, decode_calls, eof_calls}
+use Rattle.decoder_rules.specs.Run.{nothing, cut, event, need_more, finish, refusal, Call, Calls, decode_calls, eof_calls}
 use Rattle.decoder_rules.specs.declared.types.Event.TheVariants.{Start, End, Data}
 use Rattle.decoder_rules.specs.declared.types.Optional.TheVariants.{Number}
 use Rattle.decoder_rules.specs.declared.types.Part.TheVariants.{NoPart}

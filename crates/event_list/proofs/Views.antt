@@ -20,7 +20,7 @@ use Rattle.decoder_rules.specs.declared.types.TagDecoder.{TagDecoder}
 use Rattle.table.specs.BenchTable.{bench_entries, bench_parts}
 use Rattle.event_list.specs.Whole.{next_answer}
 use Rattle.tag_decoder_laws.proofs.AppendedBytes.{octets_front, decode_local, need_more_changes_nothing}
-use Rattle.tag_decoder_laws.proofs.Finishing.{eof_as_decoded}
+use Rattle.tag_decoder_laws.proofs.EofAsDecoded.{eof_as_decoded}
 
 -- ---- what the next answer is, by how much is still to come
 

@@ -4,7 +4,6 @@ use Prim.Native.String.{String}
 use Rattle.decoder_rules.specs.declared.types.Answer.{Answer}
 use Rattle.decoder_rules.specs.declared.types.Answer.TheVariants as answer
 use Rattle.decoder_rules.specs.declared.types.Decoded.{Decoded}
-use Rattle.decoder_rules.specs.declared.types.TagDecoder.{TagDecoder}
 use Rattle.texts.specs.Ascii.{ascii}
 use Rattle.event_list.specs.Line.{line}
 use Rattle.event_list.specs.Reading.{begun}

@@ -31,6 +31,7 @@ fn least(a: usize, b: usize) -> usize
 }
 
 // The call of the decoder that is due.
+#[tactic(auto, using(crate::proofs::Buffers::called_over, crate::proofs::Buffers::called_on))]
 fn call(ended: bool, d: TagDecoder, unread: &[u8]) -> Decoded
     ensures { result ≡ called ended d unread.now }
 {
@@ -125,6 +126,7 @@ fn filled_by(room: usize, mut l: Listing, count: usize) -> Listing
 }
 
 // A read behind the unread bytes, in a buffer of so many bytes, has answered.
+#[tactic(auto, using(crate::proofs::Buffers::interrupted, crate::proofs::Buffers::answered))]
 pub fn after_read(room: usize, l: Listing, got: isize) -> Listing
     ensures { result ≡ after_read room l got }
 {

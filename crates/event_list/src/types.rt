@@ -3,7 +3,7 @@
 use decoder_rules::types::{Answer, TagDecoder};
 
 // The unread bytes are those of the buffer from `from` up to `upto`; `ended` once a read has given nothing.
-#[derive(Drop)]
+#[derive(Clone, Copy)]
 pub struct Listing {
     pub decoder: TagDecoder,
     pub from: usize,
@@ -12,7 +12,7 @@ pub struct Listing {
 }
 
 // What is to be done after a call.
-#[derive(Drop)]
+#[derive(Clone, Copy)]
 pub enum Next {
     // print the answer's line and go on
     Line,
@@ -23,7 +23,7 @@ pub enum Next {
 }
 
 // What one call answered, what is to be done after it, and what is kept for the next.
-#[derive(Drop)]
+#[derive(Clone, Copy)]
 pub struct CallResult {
     pub answer: Answer,
     pub next: Next,

@@ -1,0 +1,21 @@
+-- `event_list::lines::put_answer`, by the answer. Assumes nothing.
+use native.Mathlib.Omega.{arith}
+use Rattle.event_list.specs.Line.{answer_text}
+use Rattle.numerals.proofs.Putting.{within}
+use Rattle.event_list.proofs.lines.put_answer.Goals as goal
+
+pub returns-in-Event : goal.returns-in-Event
+unfolding answer_text
+returns-in-Event c = rw c.in-Event.is c.put_event.ensures
+
+pub returns-in-NeedMore : goal.returns-in-NeedMore
+unfolding answer_text
+returns-in-NeedMore c = rw c.in-NeedMore.is (within (omega arith) c.put_position.ensures)
+
+pub returns-in-Finished : goal.returns-in-Finished
+unfolding answer_text
+returns-in-Finished c = rw c.in-Finished.is (within (omega arith) c.put_position-in-Finished.ensures)
+
+pub returns-in-Refused : goal.returns-in-Refused
+unfolding answer_text
+returns-in-Refused c = rw c.in-Refused.is (within (omega arith) c.put_refusal.ensures)

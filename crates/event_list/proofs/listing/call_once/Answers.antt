@@ -1,0 +1,16 @@
+-- `event_list::listing::call_once`: the two ends, the call, and what follows from its answer. Assumes nothing.
+use Rattle.std.proofs.Common.{◌-◌, arith}
+use Rattle.event_list.proofs.Buffers.{call_once_is}
+use Rattle.event_list.proofs.Taking.{part_takes}
+use Rattle.event_list.proofs.listing.call_once.Goals as goal
+
+pub overflow_add-listing : goal.overflow_add-listing
+overflow_add-listing c =
+    let a = c.args in
+    let u = c.least-upto.result in
+    let n = part_takes a.l.ended a.l.decoder a.buffer.now (u - c.least-from.result) c.least-from.result (λ i. (c.type_inv.buffer i).fits) c.call-r.ensures in
+    omega arith
+
+pub returns : goal.returns
+returns c =
+    call_once_is c.args.l c.args.buffer.now c.least-upto.ensures.0 c.least-from.ensures.0 c.call-r.ensures c.next_of.ensures
