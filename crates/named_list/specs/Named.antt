@@ -8,7 +8,6 @@ use Rattle.spec_util.specs.declared.types.OpenTag.{OpenTag}
 use Rattle.decoder_rules.specs.Numbers.{error_number}
 use Rattle.decoder_rules.specs.declared.types.Answer.{Answer}
 use Rattle.decoder_rules.specs.declared.types.Answer.TheVariants as answer
-use Rattle.decoder_rules.specs.declared.types.Cut.{Cut}
 use Rattle.decoder_rules.specs.declared.types.DecodeError.{DecodeError}
 use Rattle.decoder_rules.specs.declared.types.DecodeError.TheVariants as error
 use Rattle.decoder_rules.specs.declared.types.Event.{Event}

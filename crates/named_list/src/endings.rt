@@ -70,6 +70,7 @@ fn put_refused(number: u64, place: u64, out: &mut [u8], at: usize) -> usize
 }
 
 // A refusal, with the decoder at a position.
+#[tactic(auto, using(std::proofs::lemmas::Bool::Decides::nat_tests), unfolding(crate::specs::Named::refusal_text))]
 pub fn put_refusal(refusal: Refusal, position: u64, out: &mut [u8], at: usize) -> usize
     requires { at + 128 ≤ length out.old }
     ensures { Puts 128 result out.new out.old at (refusal_text refusal position) }

@@ -59,6 +59,7 @@ fn put_strict_meaning(number: u64, out: &mut [u8], at: usize) -> usize
 }
 
 // What a refusal means.
+#[tactic(auto, using(std::proofs::lemmas::Bool::Decides::nat_tests), unfolding(crate::specs::Meaning::meaning))]
 pub fn put_meaning(number: u64, out: &mut [u8], at: usize) -> usize
     requires { at + 48 ≤ length out.old }
     ensures { Puts 48 result out.new out.old at (meaning number) }

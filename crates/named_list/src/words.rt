@@ -56,6 +56,7 @@ fn is_late_control(b: u8) -> bool
 }
 
 // Whether an octet between two others belongs to a control character.
+#[tactic(auto, using(std::proofs::lemmas::Bool::Decides::nat_tests), unfolding(crate::specs::Words::is_control))]
 fn is_control(before: u8, b: u8, after: u8) -> bool
     ensures { result ≡ is_control before b after }
 {
@@ -94,6 +95,7 @@ fn put_marked(b: u8, out: &mut [u8], at: usize) -> usize
 }
 
 // An octet between two others, as it is shown.
+#[tactic(auto, using(std::proofs::lemmas::Bool::Decides::nat_tests), unfolding(crate::specs::Words::shown_octet))]
 fn put_shown_octet(before: u8, b: u8, after: u8, out: &mut [u8], at: usize) -> usize
     requires { at + 4 ≤ length out.old }
     ensures { Puts 4 result out.new out.old at (shown_octet before b after) }
