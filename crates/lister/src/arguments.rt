@@ -1,17 +1,17 @@
 // What the arguments ask for: which list, and how the record is read.
 
-use libc::STDERR_FILENO;
-use reading::arguments::{argument, mode_at, same};
+use reading::arguments::{argument, is_given, mode_at, same};
+use std::rt::HostRuntime;
 
 // The list of document 01, or the one for people.
-#[derive(Drop)]
+#[derive(Clone, Copy)]
 pub enum List {
     Plain,
     Names,
 }
 
 // The list that is asked for, and whether the record is read strictly, where there is such a list and such a mode.
-#[derive(Drop)]
+#[derive(Clone, Copy)]
 pub struct Wanted {
     pub list: List,
     pub strict: bool,
@@ -28,8 +28,8 @@ fn known(list: List) -> Wanted {
 }
 
 // What is not there, and the words that say so.
-fn unknown(words: &[u8]) -> Wanted {
-    io::write_all(STDERR_FILENO, words);
+fn unknown(rt: &HostRuntime, words: &str) -> Wanted {
+    let _ = rt.eprintln(words);
     Wanted {
         list: List::Plain,
         strict: false,
@@ -38,27 +38,27 @@ fn unknown(words: &[u8]) -> Wanted {
 }
 
 // With no argument the list of document 01; with one or more, the list that the first one names.
-fn list_wanted() -> Wanted {
-    if os::arg_count() < 2 {
+fn list_wanted(rt: &HostRuntime) -> Wanted {
+    if !is_given(rt, 1) {
         return known(List::Plain);
     }
-    let word = argument(1);
+    let word = argument(rt, 1);
     if same(word, [b'n', b'a', b'm', b'e', b's', 0]) {
         return known(List::Names);
     }
     if same(word, [b'p', b'l', b'a', b'i', b'n', 0]) {
         return known(List::Plain);
     }
-    unknown(b"lister: the list is plain or names\n")
+    unknown(rt, "lister: the list is plain or names")
 }
 
 // The list, and the mode that the second argument names, if there is one.
-pub fn what_is_wanted() -> Wanted {
-    let mode = mode_at(2);
+pub fn what_is_wanted(rt: &HostRuntime) -> Wanted {
+    let mode = mode_at(rt, 2);
     if mode.is_known {
-        let mut wanted = list_wanted();
+        let mut wanted = list_wanted(rt);
         wanted.strict = mode.strict;
         return wanted;
     }
-    unknown(b"lister: the mode is ported or strict\n")
+    unknown(rt, "lister: the mode is ported or strict")
 }

@@ -4,15 +4,15 @@ ghost use Rattle.std.specs.Prelude.{◌≡◌};
 ghost use Rattle.lister.specs.Status.{status_of};
 
 use decoder_rules::types::Answer;
+use reading::arguments::is_given;
+use std::process::ExitCode;
+use std::rt::HostRuntime;
 
 // A list without a last line.
 pub const BROKEN: u8 = b'2';
 
 // The list goes on: no status yet.
 pub const GOES_ON: u8 = 0;
-
-// Where the status is told.
-const STATUS_FILENO: i32 = 3;
 
 // The status of a list that ends with an answer.
 pub fn status_of(answer: Answer) -> u8
@@ -26,9 +26,10 @@ pub fn status_of(answer: Answer) -> u8
     }
 }
 
-// Tells the status to whoever asked for it, by an argument.
-pub fn tell(status: u8) {
-    if 1 < os::arg_count() {
-        io::write_all(STATUS_FILENO, &[status]);
+// The exit status that tells a status to whoever asked for it, by an argument; 0 where nobody did.
+pub fn tell(rt: &HostRuntime, status: u8) -> ExitCode {
+    if is_given(rt, 1) {
+        return ExitCode::from(status.wrapping_sub(b'0'));
     }
+    ExitCode::SUCCESS
 }
