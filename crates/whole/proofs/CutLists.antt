@@ -2,7 +2,7 @@
 -- known size, a part that is not empty and ends before that master does has no list, with a buffer of any size, whose
 -- last answer is the finish. It is `cut_root` of the calls that the lister makes, the setting before them. Assumes
 -- nothing.
-use Prim.Native.Nat.{ℕ, ◌+◌, ◌<◌}
+use Prim.Native.Nat.{ℕ, ◌<◌}
 use mathlib.Core.Path.{◌≡◌, refl, sym, ap, ◌∙◌, subst}
 use mathlib.Core.Bool.{Bool, true, false, cond, false≢true}
 use mathlib.Core.List.{List, [], ◌∷◌, ◌++◌}
@@ -18,7 +18,6 @@ use Rattle.decoder_rules.specs.EndOfInput.{decode_eof}
 use Rattle.decoder_rules.specs.declared.types.Answer.{Answer}
 use Rattle.decoder_rules.specs.declared.types.Answer.TheVariants as answer
 use Rattle.decoder_rules.specs.declared.types.Decoded.{Decoded}
-use Rattle.decoder_rules.specs.declared.types.Event.{Event}
 use Rattle.decoder_rules.specs.declared.types.TagDecoder.{TagDecoder}
 use Rattle.event_list.specs.Whole.{next_answer, Answered, answered_by, Answers, goes_on, ends, ListOf}
 use Rattle.guarantees.specs.Calls.{Call, decoding, ending, strictly, lent, answered, response_to, next, record_after, history, Lent}
@@ -27,7 +26,7 @@ use Rattle.guarantees.specs.Promises as promised
 use Rattle.guarantees.specs.Promises.{position_at}
 use Rattle.guarantees.specs.CutRecords.{LendsNext, InOrder, BeginsWithMaster}
 use Rattle.guarantees.proofs.CutRecords.{bench_cut_records}
-use Rattle.whole.specs.Night.{is_event, is_finish, finishes}
+use Rattle.whole.specs.Night.{is_finish, finishes}
 use Rattle.whole.proofs.Readings.{finish-later}
 
 -- the calls cs read the record s in order, and so many bytes are still to come

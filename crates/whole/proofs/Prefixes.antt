@@ -102,7 +102,7 @@ start_opens e h (Known n) t one k =
 abbrev Opens : Decoded → Type 0
 Opens r = is_root_at0 r.answer r.state ≡ true → has_size r.answer r.state ≡ true → RootOpen (first_end r.state) r.state
 
-header_opens : {t : List Entry} {h : TagHeader} {s : List ℕ} {a : Action} (e : TagDecoder) → e.settings.allow_oversized ≡ false → HeaderExit t e h s a → Opens (move e a)
+header_opens : {t : List Entry} {h : TagHeader} {s : List ℕ} (e : TagDecoder) {a : Action} → e.settings.allow_oversized ≡ false → HeaderExit t e h s a → Opens (move e a)
 unfolding move
 header_opens e t (exit.misplaced p) i z = absurd (false≢true i)
 header_opens e t (exit.oversized n p y g) i z = absurd (false≢true i)

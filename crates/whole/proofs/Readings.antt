@@ -30,7 +30,8 @@ use Rattle.decoder_rules.specs.declared.types.TagDecoder.{TagDecoder}
 use Rattle.decoder_rules.proofs.MoveLaws.{with_note}
 use Rattle.tag_decoder.proofs.CallLaws.{eof_facts}
 use Rattle.tag_decoder_laws.proofs.AppendedBytes.{octets_front, decode_local}
-use Rattle.tag_decoder_laws.proofs.Finishing.{eof_asks_no_more, eof_as_decoded}
+use Rattle.tag_decoder_laws.proofs.Finishing.{eof_asks_no_more}
+use Rattle.tag_decoder_laws.proofs.EofAsDecoded.{eof_as_decoded}
 use Rattle.tag_decoder_laws.proofs.Nearer.{weight}
 use Rattle.event_list.specs.Reading.{begun, called}
 use Rattle.event_list.specs.Whole.{next_answer, Answered, answered_by, Answers, goes_on, ends, AnswersTo}
@@ -269,7 +270,7 @@ module _ (size : ℕ) (some : 0 < size) where
       let same : r ≡ decode_eof bench_entries bench_parts d s = is ∙ next_is_eof d s byte fin near (ap (λ (x : Decoded). needs_more x.answer) (sym is) ∙ not_asks r.answer told.left) in
       let event : (decode_eof bench_entries bench_parts d s).answer ≡ answer.Event e = ap (λ (x : Decoded). x.answer) (sym same) ∙ q in
       let on : OnFrom n r s = subst (λ (x : Decoded). OnFrom n x s) (sym same) (on_from_lem n d s byte fin near fuel e event) in
-      ap (λ (l : List Answered). answered_by r ∷ l) (reads_all p n r.state refl (octets_drop r.taken s byte) on.fin on.near told.right on.fuel)
+      ap (λ (l : List Answered). answered_by r ∷ l) (reads_all {r = next_answer size r.state (drop r.taken s)} p n r.state refl (octets_drop r.taken s byte) on.fin on.near told.right on.fuel)
       ∙ ap (λ (x : Decoded). answered_by x ∷ read_from bench_entries bench_parts n x.state (drop x.taken s)) same
       ∙ sym (read_on bench_entries bench_parts n d s (ap is_event event))
   reads_all (ends r s none) (suc n) d is byte fin near asks fuel =

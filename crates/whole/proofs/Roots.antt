@@ -3,7 +3,7 @@
 -- record comes it comes at f (`ends_at`). Assumes nothing.
 use Prim.Native.Nat.{ℕ, zero, suc, ◌+◌, ◌-◌, ◌≤◌, ◌<◌}
 use mathlib.Core.Path.{◌≡◌, refl, sym, ap, subst, ◌∙◌}
-use mathlib.Core.Bool.{Bool, true, false, cond, not, ◌&&◌, false≢true, true≢false}
+use mathlib.Core.Bool.{Bool, true, false, cond, ◌&&◌, false≢true, true≢false}
 use mathlib.Core.List.{List, [], ◌∷◌, ◌++◌, reverse, reverse-cons}
 use mathlib.Core.Logic.{◌⊎◌, inl, inr}
 use native.Mathlib.Omega.{arith}
@@ -278,7 +278,7 @@ module _ (es ps : List ℕ) (d : TagDecoder) (s : List ℕ) (byte : Octets s) (s
       by true q h = absurd (omega (arith, some_open o))
       by false q h = let k : end_of o.root ≤ e.position = ltb-false _ _ q in omega (arith, o.end)
 
-  end_leaves : {t : List Entry} {r : Decoded} (f : ℕ) (e : TagDecoder) → RootOpen f e → EndExit t e s r → Leaves f r
+  end_leaves : {t : List Entry} (f : ℕ) (e : TagDecoder) {r : Decoded} → RootOpen f e → EndExit t e s r → Leaves f r
   unfolding move
   end_leaves f e o (at.bytes_left l) i z = absurd (false≢true i)
   end_leaves f e o (at.master_cut y l) i z = absurd (false≢true i)
@@ -297,7 +297,7 @@ module _ (es ps : List ℕ) (d : TagDecoder) (s : List ℕ) (byte : Octets s) (s
   root_leaves f o = eof_leaves f o (eof_exits es ps d s)
 
   -- the finish does not come while it is open
-  end_open : {t : List Entry} {r : Decoded} (f : ℕ) (e : TagDecoder) → RootOpen f e → EndExit t e s r → r.answer ≡ answer.Finished → ⊥
+  end_open : {t : List Entry} (f : ℕ) (e : TagDecoder) {r : Decoded} → RootOpen f e → EndExit t e s r → r.answer ≡ answer.Finished → ⊥
   unfolding move
   end_open f e o (at.bytes_left l) q = let z : ◌≡◌ {A = ℕ} 0 1 = cc in absurd_eq z
   end_open f e o (at.master_cut y l) q = let z : ◌≡◌ {A = ℕ} 0 1 = cc in absurd_eq z
@@ -351,7 +351,7 @@ module _ (es ps : List ℕ) (d : TagDecoder) (s : List ℕ) (byte : Octets s) (s
   exit_rests f c (exit.on_header h at g x) i z =
       header_rests f (noted ps d (step7 (table_of es ps) d h)) (subst (RootClosed f) (sym (step7_none h)) c) x i z
 
-  end_rests : {t : List Entry} {r : Decoded} (f : ℕ) (e : TagDecoder) → RootClosed f e → EndExit t e s r → Rests f r
+  end_rests : {t : List Entry} (f : ℕ) (e : TagDecoder) {r : Decoded} → RootClosed f e → EndExit t e s r → Rests f r
   unfolding move
   end_rests f e c (at.bytes_left l) i z = absurd (false≢true i)
   end_rests f e c (at.master_cut y l) i z = absurd (false≢true i)

@@ -5,7 +5,7 @@ use decoder_rules::types::Optional;
 // What the answers up to here have shown. `front`: the first event, if there was one, was the Start of a root at 0.
 // `id` and `start` are those of the last Start or, where not every one was `sized`, of the first that was not. A record
 // is an element with nothing open around it; a feed is a master directly in a root.
-#[derive(Drop)]
+#[derive(Clone, Copy)]
 pub struct Seen {
     pub begun: bool,
     pub front: bool,
@@ -17,14 +17,14 @@ pub struct Seen {
 }
 
 // The outermost open master, where one is open.
-#[derive(Drop)]
+#[derive(Clone, Copy)]
 pub enum Root {
     NoneOpen,
     Open { id: u64, start: u64, size: Optional },
 }
 
 // What the last answer shows of an input.
-#[derive(Drop)]
+#[derive(Clone, Copy)]
 pub enum Verdict {
     // one record, every size of it is known, and it is all there
     Whole {
@@ -68,7 +68,7 @@ pub enum Verdict {
 // master of a cut, or the master that has no size; `root_named` and `root_size_named` are 1 where there is one, and
 // where it has a size.
 #[repr(C)]
-#[derive(Drop)]
+#[derive(Clone, Copy)]
 pub struct VerdictNumbers {
     pub verdict: u64,
     pub feeds: u64,
