@@ -22,7 +22,7 @@ use Rattle.decoder_rules.specs.declared.types.TagDecoder.{TagDecoder}
 use Rattle.decoder_rules.proofs.MoveLaws.{is_no_event, decode_finished, decode_position, decode_stays}
 use Rattle.tag_decoder.proofs.CallLaws.{takes_within}
 use Rattle.tag_decoder_laws.proofs.AppendedBytes.{decode_local}
-use Rattle.tag_decoder_laws.proofs.Finishing.{eof_as_decoded}
+use Rattle.tag_decoder_laws.proofs.EofAsDecoded.{eof_as_decoded}
 use Rattle.tag_decoder_laws.proofs.Settling.{settled_once}
 use Rattle.event_list.specs.Reading.{begun, started}
 use Rattle.event_list.specs.Run.{joined, NoneEmpty, Runs}
