@@ -23,7 +23,7 @@ use Rattle.decoder_rules.specs.declared.types.Event.{Event}
 use Rattle.decoder_rules.specs.declared.types.Event.TheVariants as event
 use Rattle.decoder_rules.specs.declared.types.TagDecoder.{TagDecoder}
 use Rattle.decoder_rules.proofs.MoveLaws.{decode_finished}
-use Rattle.tag_decoder_laws.proofs.Finishing.{eof_as_decoded}
+use Rattle.tag_decoder_laws.proofs.EofAsDecoded.{eof_as_decoded}
 use Rattle.event_list.specs.Reading as listing
 use Rattle.event_list.specs.Run.{joined, NoneEmpty, Runs}
 use Rattle.event_list.specs.Whole.{Answered, answered_by}
