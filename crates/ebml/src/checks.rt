@@ -8,8 +8,7 @@ use table::check::{check_table, rule_number};
 use table::types::Checked;
 
 // 0 for a table that passed, else its lowest fault or its bad shape.
-#[unsafe(no_mangle)]
-pub extern "C" fn ebml_check_table(entries: &[u64], parts: &[u64]) -> u64
+pub fn ebml_check_table(entries: &[u64], parts: &[u64]) -> u64
     ensures { result ≡ checked_out (check_table entries.now parts.now) }
 {
     match check_table(entries, parts) {

@@ -13,29 +13,21 @@ use decoder_words::types::{Number, Reply};
 // ---- a new decoder, and its settings
 
 // A fresh decoder in the lent words, whatever they held.
-#[unsafe(no_mangle)]
-pub extern "C" fn ebml_decoder_new(words: &mut [u64; 320]) -> u64
+pub fn ebml_decoder_new(words: &mut [u64; 320]) -> u64
     ensures { Gives result words.new (new_words words.old) }
 {
     decoder_words::settings::new(words)
 }
 
 // Exactly those of the tests are switched off whose number is not 0.
-#[unsafe(no_mangle)]
-pub extern "C" fn ebml_allow_errors(
-    words: &mut [u64; 320],
-    ids: u64,
-    hierarchy: u64,
-    oversized: u64,
-) -> u64
+pub fn ebml_allow_errors(words: &mut [u64; 320], ids: u64, hierarchy: u64, oversized: u64) -> u64
     ensures { Gives result words.new (allow_words words.old (is_yes ids) (is_yes hierarchy) (is_yes oversized)) }
 {
     decoder_words::settings::allow_errors(words, ids != 0, hierarchy != 0, oversized != 0)
 }
 
 // From now on reading is strict, or with 0 as ported.
-#[unsafe(no_mangle)]
-pub extern "C" fn ebml_set_strict(words: &mut [u64; 320], strict: u64) -> u64
+pub fn ebml_set_strict(words: &mut [u64; 320], strict: u64) -> u64
     ensures { Gives result words.new (strict_words words.old (is_yes strict)) }
 {
     decoder_words::settings::set_strict(words, strict != 0)
@@ -52,12 +44,7 @@ fn greatest_size(given: u64, size: u64) -> Optional
 }
 
 // From now on elements of more than this size are refused, or with `given` 0 none is for its size.
-#[unsafe(no_mangle)]
-pub extern "C" fn ebml_set_max_allowable_tag_size(
-    words: &mut [u64; 320],
-    given: u64,
-    size: u64,
-) -> u64
+pub fn ebml_set_max_allowable_tag_size(words: &mut [u64; 320], given: u64, size: u64) -> u64
     ensures { Gives result words.new (limit_words words.old (greatest_size given size)) }
 {
     decoder_words::settings::set_max_allowable_tag_size(words, greatest_size(given, size))
@@ -66,16 +53,14 @@ pub extern "C" fn ebml_set_max_allowable_tag_size(
 // ---- what a decoder tells of itself
 
 // The position: how many bytes were taken.
-#[unsafe(no_mangle)]
-pub extern "C" fn ebml_position(words: &[u64; 320]) -> Number
+pub fn ebml_position(words: &[u64; 320]) -> Number
     ensures { result ≡ position_words words.now }
 {
     decoder_words::settings::position(words)
 }
 
 // 1 where the end of input was told and every End is handed out, else 0.
-#[unsafe(no_mangle)]
-pub extern "C" fn ebml_is_finished(words: &[u64; 320]) -> Number
+pub fn ebml_is_finished(words: &[u64; 320]) -> Number
     ensures { result ≡ finished_words words.now }
 {
     decoder_words::settings::is_finished(words)
@@ -84,8 +69,7 @@ pub extern "C" fn ebml_is_finished(words: &[u64; 320]) -> Number
 // ---- decoding
 
 // The next event, in the 8 words lent for it.
-#[unsafe(no_mangle)]
-pub extern "C" fn ebml_decode(
+pub fn ebml_decode(
     words: &mut [u64; 320],
     entries: &[u64],
     parts: &[u64],
@@ -98,8 +82,7 @@ pub extern "C" fn ebml_decode(
 }
 
 // The same at the end of input.
-#[unsafe(no_mangle)]
-pub extern "C" fn ebml_decode_eof(
+pub fn ebml_decode_eof(
     words: &mut [u64; 320],
     entries: &[u64],
     parts: &[u64],
@@ -112,8 +95,7 @@ pub extern "C" fn ebml_decode_eof(
 }
 
 // As many events as the lent list has room for, 8 words each.
-#[unsafe(no_mangle)]
-pub extern "C" fn ebml_decode_many(
+pub fn ebml_decode_many(
     words: &mut [u64; 320],
     entries: &[u64],
     parts: &[u64],
@@ -126,8 +108,7 @@ pub extern "C" fn ebml_decode_many(
 }
 
 // The same at the end of input.
-#[unsafe(no_mangle)]
-pub extern "C" fn ebml_decode_many_eof(
+pub fn ebml_decode_many_eof(
     words: &mut [u64; 320],
     entries: &[u64],
     parts: &[u64],
@@ -140,8 +121,7 @@ pub extern "C" fn ebml_decode_many_eof(
 }
 
 // The search for the next valid header.
-#[unsafe(no_mangle)]
-pub extern "C" fn ebml_try_recover(
+pub fn ebml_try_recover(
     words: &mut [u64; 320],
     entries: &[u64],
     parts: &[u64],
@@ -155,16 +135,14 @@ pub extern "C" fn ebml_try_recover(
 // ---- over a restart
 
 // The decoder as a block in the lent bytes.
-#[unsafe(no_mangle)]
-pub extern "C" fn ebml_store(words: &[u64; 320], block: &mut [u8]) -> u64
+pub fn ebml_store(words: &[u64; 320], block: &mut [u8]) -> u64
     ensures { Gives result block.new (store_from_words words.now block.old) }
 {
     decoder_words::blocks::store(words, block)
 }
 
 // The decoder of a block in the lent words, whatever they held.
-#[unsafe(no_mangle)]
-pub extern "C" fn ebml_restore(words: &mut [u64; 320], block: &[u8]) -> u64
+pub fn ebml_restore(words: &mut [u64; 320], block: &[u8]) -> u64
     ensures { Gives result words.new (restore_to_words words.old block.now) }
 {
     decoder_words::blocks::restore(words, block)

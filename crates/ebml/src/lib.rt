@@ -1,4 +1,6 @@
-// The calls of the library for a program in C, on numbers and lent bytes; include/ebml.h declares them.
+// The calls of the library for a program in C, on numbers and lent bytes; include/ebml.h declares them and ebml_c
+// exports them.
+#![tactic(auto)]
 
 mod answers;
 pub mod checks;

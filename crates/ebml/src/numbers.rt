@@ -19,8 +19,7 @@ use tools::signed_vint::{
 use tools::vint::{ReadVint, as_vint, as_vint_with_length, is_vint, read_vint};
 
 // The vint at the front of the buffer: its value out, its length the result; or how many bytes of it are missing.
-#[unsafe(no_mangle)]
-pub extern "C" fn ebml_read_vint(buffer: &[u8], out: &mut [u8]) -> u64
+pub fn ebml_read_vint(buffer: &[u8], out: &mut [u8]) -> u64
     ensures { Gives result out.new (read_out (read_vint buffer.now) out.old) }
 {
     match read_vint(buffer) {
@@ -31,8 +30,7 @@ pub extern "C" fn ebml_read_vint(buffer: &[u8], out: &mut [u8]) -> u64
 }
 
 // The same of a signed vint.
-#[unsafe(no_mangle)]
-pub extern "C" fn ebml_read_signed_vint(buffer: &[u8], out: &mut [u8]) -> u64
+pub fn ebml_read_signed_vint(buffer: &[u8], out: &mut [u8]) -> u64
     ensures { Gives result out.new (read_signed_out (read_signed_vint buffer.now) out.old) }
 {
     match read_signed_vint(buffer) {
@@ -43,56 +41,49 @@ pub extern "C" fn ebml_read_signed_vint(buffer: &[u8], out: &mut [u8]) -> u64
 }
 
 // The vint of a value, of the least width.
-#[unsafe(no_mangle)]
-pub extern "C" fn ebml_as_vint(val: u64, out: &mut [u8]) -> u64
+pub fn ebml_as_vint(val: u64, out: &mut [u8]) -> u64
     ensures { Gives result out.new (written_out (as_vint val out.old)) }
 {
     code_of(as_vint(val, out))
 }
 
 // The vint of a value in so many bytes.
-#[unsafe(no_mangle)]
-pub extern "C" fn ebml_as_vint_with_length(val: u64, width: usize, out: &mut [u8]) -> u64
+pub fn ebml_as_vint_with_length(val: u64, width: usize, out: &mut [u8]) -> u64
     ensures { Gives result out.new (written_out (as_vint_with_length val width out.old)) }
 {
     code_of(as_vint_with_length(val, width, out))
 }
 
 // The signed vint of a number, of the least width.
-#[unsafe(no_mangle)]
-pub extern "C" fn ebml_as_signed_vint(val: i64, out: &mut [u8]) -> u64
+pub fn ebml_as_signed_vint(val: i64, out: &mut [u8]) -> u64
     ensures { Gives result out.new (written_out (as_signed_vint val out.old)) }
 {
     code_of(as_signed_vint(val, out))
 }
 
 // The signed vint of a number in so many bytes.
-#[unsafe(no_mangle)]
-pub extern "C" fn ebml_as_signed_vint_with_length(val: i64, width: usize, out: &mut [u8]) -> u64
+pub fn ebml_as_signed_vint_with_length(val: i64, width: usize, out: &mut [u8]) -> u64
     ensures { Gives result out.new (written_out (as_signed_vint_with_length val width out.old)) }
 {
     code_of(as_signed_vint_with_length(val, width, out))
 }
 
 // 1 where the highest set bit is where a vint has its marker, else 0.
-#[unsafe(no_mangle)]
-pub extern "C" fn ebml_is_vint(val: u64) -> u64
+pub fn ebml_is_vint(val: u64) -> u64
     ensures { result ≡ yes_no (is_vint val) }
 {
     if is_vint(val) { 1 } else { 0 }
 }
 
 // 1 where a number is an Element ID as RFC 8794 allows it, else 0.
-#[unsafe(no_mangle)]
-pub extern "C" fn ebml_is_element_id(id: u64) -> u64
+pub fn ebml_is_element_id(id: u64) -> u64
     ensures { result ≡ yes_no (is_element_id id) }
 {
     if is_element_id(id) { 1 } else { 0 }
 }
 
 // The number of up to 8 bytes.
-#[unsafe(no_mangle)]
-pub extern "C" fn ebml_arr_to_u64(arr: &[u8], out: &mut [u8]) -> u64
+pub fn ebml_arr_to_u64(arr: &[u8], out: &mut [u8]) -> u64
     ensures { Gives result out.new (unsigned_out (arr_to_u64 arr.now) out.old) }
 {
     match arr_to_u64(arr) {
@@ -102,8 +93,7 @@ pub extern "C" fn ebml_arr_to_u64(arr: &[u8], out: &mut [u8]) -> u64
 }
 
 // The same in two's complement.
-#[unsafe(no_mangle)]
-pub extern "C" fn ebml_arr_to_i64(arr: &[u8], out: &mut [u8]) -> u64
+pub fn ebml_arr_to_i64(arr: &[u8], out: &mut [u8]) -> u64
     ensures { Gives result out.new (integer_out (arr_to_i64 arr.now) out.old) }
 {
     match arr_to_i64(arr) {
@@ -113,8 +103,7 @@ pub extern "C" fn ebml_arr_to_i64(arr: &[u8], out: &mut [u8]) -> u64
 }
 
 // The 64 bits of a float of 4 or 8 bytes.
-#[unsafe(no_mangle)]
-pub extern "C" fn ebml_arr_to_f64(arr: &[u8], out: &mut [u8]) -> u64
+pub fn ebml_arr_to_f64(arr: &[u8], out: &mut [u8]) -> u64
     ensures { Gives result out.new (float_out (arr_to_f64 arr.now) out.old) }
 {
     match arr_to_f64(arr) {

@@ -11,13 +11,7 @@ use whole::numbers::numbers_of;
 use whole::types::VerdictNumbers;
 
 // The verdict of `ebml-check` on a record that is all there, with the table lent; strictly, or with 0 as ported.
-#[unsafe(no_mangle)]
-pub extern "C" fn ebml_is_whole(
-    entries: &[u64],
-    parts: &[u64],
-    strict: u64,
-    input: &[u8],
-) -> VerdictNumbers
+pub fn ebml_is_whole(entries: &[u64], parts: &[u64], strict: u64, input: &[u8]) -> VerdictNumbers
     ensures { result ≡ verdict_numbers (verdict_of (answers_to (is_yes strict) entries.now parts.now input.now)) }
 {
     numbers_of(verdict_on(entries, parts, strict != 0, input))

@@ -7,8 +7,7 @@ ghost use Rattle.ebml.specs.Numbers.{yes_no};
 use utf8::is_utf8;
 
 // 1 where the bytes are a text by RFC 3629, else 0.
-#[unsafe(no_mangle)]
-pub extern "C" fn ebml_is_utf8(s: &[u8]) -> u64
+pub fn ebml_is_utf8(s: &[u8]) -> u64
     ensures { result ≡ yes_no (is_text s.now) }
 {
     if is_utf8(s) { 1 } else { 0 }

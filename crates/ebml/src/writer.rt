@@ -28,8 +28,7 @@ fn hand_out_length(w: Wrote, written: &mut [u8]) -> u64
 }
 
 // The document of a list of items at the front of `out`, and its length in `written`.
-#[unsafe(no_mangle)]
-pub extern "C" fn ebml_write(
+pub fn ebml_write(
     entries: &[u64],
     parts: &[u64],
     items: &[u64],
