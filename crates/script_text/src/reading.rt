@@ -5,28 +5,28 @@ ghost use Rattle.std.specs.Prelude.{◌*◌, ◌≤◌, ◌<◌, length};
 use crate::words::same;
 
 // A number below 2^64, or no such number.
-#[derive(Drop)]
+#[derive(Clone, Copy)]
 pub enum Number {
     Value(u64),
     Bad,
 }
 
 // A number of 64 bits with its sign, or no such number.
-#[derive(Drop)]
+#[derive(Clone, Copy)]
 pub enum Signed {
     Value(i64),
     Bad,
 }
 
 // `count` bytes at the front of what was lent, if the word is HEX.
-#[derive(Drop)]
+#[derive(Clone, Copy)]
 pub struct HexBytes {
     pub is_hex: bool,
     pub count: usize,
 }
 
 // A byte, or no hex digits.
-#[derive(Drop)]
+#[derive(Clone, Copy)]
 enum Byte {
     Value(u8),
     Bad,
