@@ -6,7 +6,7 @@ use script_text::reading::{Number, Signed, read_decimal, read_hex, read_signed, 
 use script_text::words::{same, word_end};
 
 // A call, without the bytes that some read.
-#[derive(Drop)]
+#[derive(Clone, Copy)]
 pub enum Call {
     ReadVint,
     ReadSignedVint,
@@ -25,7 +25,7 @@ pub enum Call {
 }
 
 // A vint to write.
-#[derive(Drop)]
+#[derive(Clone, Copy)]
 pub enum Vint {
     Shortest(u64),
     OfLength(u64, usize),
@@ -34,7 +34,7 @@ pub enum Vint {
 }
 
 // A call, and how many bytes of its HEX stand at the front of the lent ones.
-#[derive(Drop)]
+#[derive(Clone, Copy)]
 pub struct Request {
     pub call: Call,
     pub count: usize,

@@ -12,7 +12,7 @@ use script_text::answers::{bad_line, put, put_decimal, put_hex};
 use script_text::reading::read_hex;
 use script_text::words::last_word;
 
-#[derive(Drop)]
+#[derive(Clone, Copy)]
 enum Outcome {
     Number(u64),
     NoCall,

@@ -1,4 +1,5 @@
 // The number calls of a script, and their C form.
+#![tactic(auto)]
 
 ghost use Rattle.std.specs.Prelude.{◌≤◌, length};
 
