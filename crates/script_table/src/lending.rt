@@ -13,7 +13,7 @@ pub const BAD_SHAPE: u64 = 10;
 
 // How many words of the table stand at the front of the lent ones, its entries' and its parts', and whether its shape
 // is good.
-#[derive(Drop)]
+#[derive(Clone, Copy)]
 pub struct LentTable {
     pub entries: usize,
     pub parts: usize,
@@ -21,7 +21,7 @@ pub struct LentTable {
 }
 
 // What a line leaves behind: the table, and how many bytes its answer has.
-#[derive(Drop)]
+#[derive(Clone, Copy)]
 pub struct Answered {
     pub table: LentTable,
     pub count: usize,

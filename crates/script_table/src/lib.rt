@@ -1,4 +1,5 @@
 // The calls on a lent table: `table`, which lends one; `check`, `ended`, `path`, `sended` and `spath`, which ask it.
+#![tactic(auto)]
 
 mod asking;
 pub mod calls;

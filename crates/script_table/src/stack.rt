@@ -7,7 +7,7 @@ use script_text::words::{find, item_end, same};
 use spec_util::types::MOST_OPEN;
 
 // The open masters, if the text is a STACK: their IDs and whether their sizes are known, in the first `count` places.
-#[derive(Drop)]
+#[derive(Clone, Copy)]
 pub struct Stack {
     pub is_stack: bool,
     pub ids: [u64; MOST_OPEN],
@@ -15,14 +15,14 @@ pub struct Stack {
     pub count: usize,
 }
 
-#[derive(Drop)]
+#[derive(Clone, Copy)]
 enum Size {
     Known,
     Unknown,
     Bad,
 }
 
-#[derive(Drop)]
+#[derive(Clone, Copy)]
 enum Item {
     Master { id: u64, known: bool },
     Bad,
