@@ -8,14 +8,14 @@ use script_text::answers::{put, put_decimal, put_text};
 use spec_util::types::{MOST_OPEN, OpenTag};
 
 // The two lists of a record: its open masters, and its Ends that wait.
-#[derive(Drop)]
+#[derive(Clone, Copy)]
 pub enum ListKind {
     Open,
     Waiting,
 }
 
 // What a list shows of each item: the item itself, or the count of its children.
-#[derive(Drop)]
+#[derive(Clone, Copy)]
 enum Shown {
     Item,
     Children,
