@@ -1,4 +1,5 @@
 // The calls of a script that keep the decoder's record: `store` and `restore`.
+#![tactic(auto)]
 
 pub mod restoring;
 pub mod storing;

@@ -17,7 +17,7 @@ const MOST_WORDS: usize = 321;
 const MOST_BYTES: usize = 10760;
 
 // Whether the line is a call, what it answers then, and the decoder after it.
-#[derive(Drop)]
+#[derive(Clone, Copy)]
 pub struct Restoring {
     pub is_call: bool,
     pub answer: Acceptance,
