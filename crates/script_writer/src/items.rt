@@ -17,13 +17,13 @@ const END: u64 = 6;
 const NO_KIND: u64 = 7;
 
 // The words of a list at the front of the lent ones, and how many they are, if the text is ITEMS.
-#[derive(Drop)]
+#[derive(Clone, Copy)]
 pub struct ItemWords {
     pub is_list: bool,
     pub count: usize,
 }
 
-#[derive(Drop)]
+#[derive(Clone, Copy)]
 enum Item {
     Words {
         kind: u64,
