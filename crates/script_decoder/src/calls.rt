@@ -22,7 +22,7 @@ use tag_decoder::settings::new;
 const MOST_BYTES: usize = 8192;
 
 // What a line leaves behind: the decoder, and how many bytes its answer has.
-#[derive(Drop)]
+#[derive(Clone, Copy)]
 pub struct Answered {
     pub decoder: TagDecoder,
     pub count: usize,

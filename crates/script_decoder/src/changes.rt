@@ -13,7 +13,7 @@ use tag_decoder::settings::{allow_errors, set_max_allowable_tag_size, set_strict
 const MOST_ITEMS: usize = MOST_OPEN + 1;
 
 // The record after a change, if its text is right.
-#[derive(Drop)]
+#[derive(Clone, Copy)]
 pub struct Change {
     pub is_good: bool,
     pub decoder: TagDecoder,

@@ -7,7 +7,7 @@ use script_text::words::{find, same};
 use spec_util::types::{OpenTag, open_tag};
 
 // An item as it was read.
-#[derive(Drop)]
+#[derive(Clone, Copy)]
 pub enum Item {
     Open(OpenTag),
     Waiting(WaitingEnd),
@@ -15,7 +15,7 @@ pub enum Item {
 }
 
 // A size as it is written, `u` for Unknown.
-#[derive(Drop)]
+#[derive(Clone, Copy)]
 enum Size {
     Known(u64),
     Unknown,

@@ -12,7 +12,7 @@ use script_text::words::word_end;
 const KEYS: usize = 10;
 
 // The record with the fields so far, which keys they have, and whether all are right.
-#[derive(Drop)]
+#[derive(Clone, Copy)]
 struct Setting {
     is_good: bool,
     seen: [bool; KEYS],
