@@ -1,4 +1,5 @@
 // Answers a script of calls, a line for a call.
+#![tactic(auto)]
 
 ghost use Rattle.std.specs.Prelude.{◌≤◌, length};
 ghost use Rattle.script_table.specs.HeldIn.{HeldIn};

@@ -6,14 +6,18 @@ ghost use Rattle.script.specs.Within.{Within};
 
 use crate::answer;
 use crate::session::{Answered, Session, new_session};
-use libc::{STDIN_FILENO, STDOUT_FILENO};
 use script_text::answers::{bad_line, put, put_text};
 use script_text::words::find;
+use std::io::Read;
+use std::rt::HostRuntime;
 
 // The most bytes of a line, without its newline.
 const MOST_LINE: usize = 16384;
 
 const OUTPUT: usize = 65536;
+
+// The most bytes of a read.
+const CHUNK: usize = 65536;
 
 // More than any answer takes, with its newline.
 const ANSWER_ROOM: usize = 20000;
@@ -23,7 +27,7 @@ const MOST_WORDS: usize = 8192;
 
 // What goes from one step to the next: how many bytes of the unfinished line are held, whether it has more than a line
 // may have, how many bytes of output are still to be written, and what the lines so far leave.
-#[derive(Drop)]
+#[derive(Clone, Copy)]
 struct Progress {
     held: usize,
     is_over: bool,
@@ -31,13 +35,13 @@ struct Progress {
     session: Session,
 }
 
-#[derive(Drop)]
+#[derive(Clone, Copy)]
 struct Fed {
     progress: Progress,
     taken: usize,
 }
 
-#[derive(Drop)]
+#[derive(Clone, Copy)]
 struct Turn {
     progress: Progress,
     is_last: bool,
@@ -71,12 +75,12 @@ fn answer_line(
 }
 
 // Where the next answer goes: the output is written first where little of it is left.
-fn make_room(out: &[u8], filled: usize) -> usize
+fn make_room(rt: &HostRuntime, out: &[u8], filled: usize) -> usize
     requires { filled ≤ length out.now }
     ensures { result ≤ length out.now }
 {
     if out.len() - filled < ANSWER_ROOM {
-        io::write_all(STDOUT_FILENO, &out[0..filled]);
+        let _ = rt.write_all(&out[0..filled]);
         return 0;
     }
     filled
@@ -92,6 +96,7 @@ fn end_of(out: &[u8], start: usize, count: usize) -> usize
 }
 
 fn finish_line(
+    rt: &HostRuntime,
     line: &[u8],
     entries: &mut [u64],
     parts: &mut [u64],
@@ -103,7 +108,7 @@ fn finish_line(
 {
     let held = p.held;
     let session = p.session;
-    let start = make_room(out, p.filled);
+    let start = make_room(rt, out, p.filled);
     let a = answer_line(
         &line[0..held],
         p.is_over,
@@ -131,6 +136,7 @@ fn taken_with(part: &[u8], end: usize) -> usize
 
 // Takes the bytes up to the first newline, and it.
 fn feed_line(
+    rt: &HostRuntime,
     part: &[u8],
     line: &mut [u8],
     entries: &mut [u64],
@@ -154,12 +160,13 @@ fn feed_line(
         };
     }
     Fed {
-        progress: finish_line(line, entries, parts, out, next),
+        progress: finish_line(rt, line, entries, parts, out, next),
         taken,
     }
 }
 
 fn feed(
+    rt: &HostRuntime,
     chunk: &[u8],
     line: &mut [u8],
     entries: &mut [u64],
@@ -173,7 +180,7 @@ fn feed(
     let mut progress = p;
     let mut at: usize = 0;
     while at < chunk.len() {
-        let fed = feed_line(&chunk[at..], line, entries, parts, out, progress);
+        let fed = feed_line(rt, &chunk[at..], line, entries, parts, out, progress);
         progress = fed.progress;
         at += fed.taken;
     }
@@ -182,6 +189,7 @@ fn feed(
 
 // One read; what it answers is written before the next.
 fn read_some(
+    rt: &HostRuntime,
     line: &mut [u8],
     entries: &mut [u64],
     parts: &mut [u64],
@@ -191,18 +199,17 @@ fn read_some(
     requires { Within p line.old entries.old parts.old out.old }
     ensures { Within result.progress line.old entries.old parts.old out.old }
 {
-    let mut chunk = io::large_buffer();
-    let got = libc::read(STDIN_FILENO, &mut chunk);
-    if got <= 0 {
+    let mut chunk = [0u8; CHUNK];
+    let n = rt.stdin().read(&mut chunk).unwrap_or(0);
+    if n == 0 {
         return Turn {
             progress: p,
             is_last: true,
         };
     }
-    let n = io::count(got, &chunk);
-    let mut next = feed(&chunk[0..n], line, entries, parts, out, p);
+    let mut next = feed(rt, &chunk[0..n], line, entries, parts, out, p);
     let filled = next.filled;
-    io::write_all(STDOUT_FILENO, &out[0..filled]);
+    let _ = rt.write_all(&out[0..filled]);
     next.filled = 0;
     Turn {
         progress: next,
@@ -223,13 +230,19 @@ fn begin() -> Progress
 }
 
 // Nothing says that an input ends, so the turns are counted down from a number that no run uses up.
-fn read_all(line: &mut [u8], entries: &mut [u64], parts: &mut [u64], out: &mut [u8]) -> Progress
+fn read_all(
+    rt: &HostRuntime,
+    line: &mut [u8],
+    entries: &mut [u64],
+    parts: &mut [u64],
+    out: &mut [u8],
+) -> Progress
     ensures { Within result line.old entries.old parts.old out.old }
 {
     let mut progress = begin();
     let mut turns = u64::MAX;
     while 0 < turns {
-        let t = read_some(line, entries, parts, out, progress);
+        let t = read_some(rt, line, entries, parts, out, progress);
         progress = t.progress;
         if t.is_last {
             return progress;
@@ -240,18 +253,24 @@ fn read_all(line: &mut [u8], entries: &mut [u64], parts: &mut [u64], out: &mut [
 }
 
 // The last line may lack its newline.
-fn answer_all(line: &mut [u8], entries: &mut [u64], parts: &mut [u64], out: &mut [u8]) {
-    let p = read_all(line, entries, parts, out);
-    let last = finish_line(line, entries, parts, out, p);
+fn answer_all(
+    rt: &HostRuntime,
+    line: &mut [u8],
+    entries: &mut [u64],
+    parts: &mut [u64],
+    out: &mut [u8],
+) {
+    let p = read_all(rt, line, entries, parts, out);
+    let last = finish_line(rt, line, entries, parts, out, p);
     let filled = last.filled;
-    io::write_all(STDOUT_FILENO, &out[0..filled]);
+    let _ = rt.write_all(&out[0..filled]);
 }
 
 // Answers the lines of the standard input on the standard output.
-pub fn answer_stdin() {
+pub fn answer_stdin(rt: &HostRuntime) {
     let mut line = [0u8; MOST_LINE];
     let mut entries = [0u64; MOST_WORDS];
     let mut parts = [0u64; MOST_WORDS];
     let mut out = [0u8; OUTPUT];
-    answer_all(&mut line, &mut entries, &mut parts, &mut out);
+    answer_all(rt, &mut line, &mut entries, &mut parts, &mut out);
 }

@@ -7,14 +7,14 @@ use script_decoder::calls::first_decoder;
 use script_table::lending::{LentTable, empty_table};
 
 // The lent table's measures, and the decoder.
-#[derive(Drop)]
+#[derive(Clone, Copy)]
 pub struct Session {
     pub table: LentTable,
     pub decoder: TagDecoder,
 }
 
 // The session after a line, and how many bytes the line's answer has.
-#[derive(Drop)]
+#[derive(Clone, Copy)]
 pub struct Answered {
     pub session: Session,
     pub count: usize,
