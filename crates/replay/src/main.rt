@@ -1,5 +1,6 @@
 // Answers the script of calls on standard input, a line for a call, on standard output.
+#![tactic(auto)]
 
-fn main() {
-    script::run::answer_stdin();
+fn main(rt: HostRuntime) {
+    script::run::answer_stdin(&rt);
 }
