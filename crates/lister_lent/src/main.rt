@@ -1,4 +1,5 @@
 // Lists D1, D2 and D3 of document 01 as the event lister does, with the record lent by reference at each call.
+#![tactic(auto)]
 
 ghost use Rattle.std.specs.Prelude.{◌≤◌, length};
 
@@ -7,7 +8,7 @@ mod turn;
 use crate::turn::{Turned, turn, turn_eof};
 use decoder_rules::types::{Answer, TagDecoder};
 use event_list::lines::{MOST_LINE, put_line};
-use libc::{STDERR_FILENO, STDOUT_FILENO};
+use std::rt::HostRuntime;
 use table::bench::{entries, parts};
 use tag_decoder::settings::new;
 
@@ -15,7 +16,7 @@ use tag_decoder::settings::new;
 const MOST_TURNS: usize = 64;
 
 // The bytes from `at` on are unread; `ended` once a call has had no event for them.
-#[derive(Drop)]
+#[derive(Clone, Copy)]
 struct Progress {
     state: TagDecoder,
     at: usize,
@@ -24,16 +25,17 @@ struct Progress {
 }
 
 // One line of the list.
-fn print(answer: Answer, place: u64) {
+fn print(rt: &HostRuntime, answer: Answer, place: u64) {
     let mut text = [0u8; MOST_LINE];
     let n = put_line(answer, place, &mut text);
-    if io::write_all(STDOUT_FILENO, &text[0..n]) {
+    if rt.write_all(&text[0..n]).is_ok() {
         return;
     }
-    io::write_all(STDERR_FILENO, b"lister_lent: the list cannot be written\n");
+    let _ = rt.eprintln("lister_lent: the list cannot be written");
 }
 
 // The call that is due, on a lent record.
+#[tactic(auto, using(crate::proofs::Within::turn_within, crate::proofs::Within::eof_within))]
 fn call(ended: bool, d: TagDecoder, unread: &[u8]) -> Turned
     ensures { result.reply.taken ≤ length unread.now }
 {
@@ -46,7 +48,7 @@ fn call(ended: bool, d: TagDecoder, unread: &[u8]) -> Turned
 }
 
 // One call, and what it leaves to be done.
-fn step(input: &[u8], p: Progress) -> Progress
+fn step(rt: &HostRuntime, input: &[u8], p: Progress) -> Progress
     requires { p.at ≤ length input.now }
     ensures { result.at ≤ length input.now }
 {
@@ -72,7 +74,7 @@ fn step(input: &[u8], p: Progress) -> Progress
         Answer::Finished => {}
         Answer::Refused(_) => {}
     }
-    print(answer, t.place);
+    print(rt, answer, t.place);
     Progress {
         state,
         at: next,
@@ -82,7 +84,7 @@ fn step(input: &[u8], p: Progress) -> Progress
 }
 
 // The list of a whole input.
-fn list(input: &[u8]) {
+fn list(rt: &HostRuntime, input: &[u8]) {
     let state = new();
     let mut p = Progress {
         state,
@@ -92,7 +94,7 @@ fn list(input: &[u8]) {
     };
     let mut turns = MOST_TURNS;
     while 0 < turns {
-        p = step(input, p);
+        p = step(rt, input, p);
         if p.is_last {
             return;
         }
@@ -100,12 +102,12 @@ fn list(input: &[u8]) {
     }
 }
 
-fn main() {
+fn main(rt: HostRuntime) {
     let d1 = [
         0x4E, 0x01, 0x89, 0xA1, 0x87, 0xA2, 0x81, 0x78, 0xA3, 0x82, 0x6D, 0x6C,
     ];
     let d2 = [0x4E, 0x01, 0xFF, 0xA1, 0xFF, 0xA2, 0x81, 0x78];
-    list(&d1);
-    list(&d2);
-    list(&d1[0..8]);
+    list(&rt, &d1);
+    list(&rt, &d2);
+    list(&rt, &d1[0..8]);
 }

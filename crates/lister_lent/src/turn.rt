@@ -11,7 +11,7 @@ use tag_decoder_lent::settings::position;
 use tag_decoder_lent::types::Reply;
 
 // What a turn gives: the call's reply, the position after it, and the record that it left.
-#[derive(Drop)]
+#[derive(Clone, Copy)]
 pub struct Turned {
     pub reply: Reply,
     pub place: u64,
