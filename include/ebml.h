@@ -1,7 +1,7 @@
 /* ebml.h: the calls of libebml.a, a decoder for EBML (RFC 8794) that is proved to meet its definitions.
  *
- * The archive is built by `rt staticlib ebml` and links into a program for x86-64 Linux. Every call here answers on
- * every input and keeps nothing between calls: no heap, no global state, no lock.
+ * The archive is built by `rt lib` in crates/ebml_c (README.md, "From C") and links into a program for x86-64 Linux.
+ * Every call here answers on every input and keeps nothing between calls: no heap, no global state, no lock.
  *
  * WHAT A CALLER OWES
  *  - A lent buffer is a pointer and then its length in elements (bytes, or words of a table). The pointer is not null,

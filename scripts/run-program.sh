@@ -3,10 +3,12 @@
 #   fail WORDS                    says why there is no answer, and exits with 2
 #   version                       prints the project's version and the toolchain's identity
 #   read_from FILE                has FILE as standard input; `-` or nothing is standard input as it is
-#   build PROGRAM                 has a program proved and built, unless it is built and no crate has changed
+#   build PROGRAM                 has a program proved and built, as target/bin/PROGRAM, unless it is built and no crate
+#                                 has changed
 #   start_program PROGRAM WORDS   runs it
-#   run_program PROGRAM WORDS     runs it, and exits with the status that it tells on descriptor 3, a digit; with 2
-#                                 where it tells none
+#   run_program PROGRAM WORDS     runs it, and exits with its exit status where that is 0, 1 or 2; with 2 where it broke off
+#   archive CRATE                 has the static library of a crate proved and built, as target/staticlib/libCRATE.a: that
+#                                 of CRATE_c where there is such a crate, which exports the calls of the library CRATE
 # Without the toolchain in PATH a program that is built still runs: target/PROGRAM.built says where its C library is.
 
 fail() { printf '%s: %s\n' "$name" "$*" >&2; exit 2; }
@@ -34,10 +36,10 @@ read_from() {
     esac
 }
 
-# whether a program is built and no crate has changed since
+# whether a program is built and no crate has changed since; what the toolchain makes in out/ is no part of a crate
 is_built() {
     [ -x "$here/target/bin/$1" ] && [ -f "$here/target/$1.built" ] || return 1
-    [ -z "$(find "$here/crates" "$here/crates.txt" -newer "$here/target/$1.built" -type f | head -n 1)" ]
+    [ -z "$(find "$here/crates" "$here/crates.txt" -name out -prune -o -newer "$here/target/$1.built" -type f -print | head -n 1)" ]
 }
 
 build() {
@@ -45,12 +47,24 @@ build() {
     kit=$(kit_of_rt)
     [ -n "$kit" ] || fail "the program $1 is not built, and the Rattle toolchain is not there: no rt in PATH"
     printf '%s: proving and building the program %s; the first time this takes a few minutes ..\n' "$name" "$1" >&2
-    mkdir -p "$here/target"
+    mkdir -p "$here/target/bin"
     # its folder is written as the build begins: a crate that changes meanwhile is newer
-    printf '%s\n' "$kit/on/$(uname -m)/toolchain" >"$here/target/$1.built.new"
-    last=$(cd "$here" && rt check "$1" </dev/null 2>&1 | said_by_rt "$here/target/$1.log")
-    case $last in 'rt: ok'*) ;; *) fail "the program $1 is not proved: target/$1.log says why" ;; esac
+    printf '%s\n' "$kit/toolchain" >"$here/target/$1.built.new"
+    # rt builds a program to run it: here once, on no byte, where each program ends with 0
+    rm -f "$here/crates/$1/out/$1"
+    last=$(cd "$here/crates/$1" && { rt run </dev/null 2>&1 && echo 'rt has run it' || echo 'rt has not'; } | said_by_rt "$here/target/$1.log")
+    if [ "$last" != 'rt has run it' ] || [ ! -x "$here/crates/$1/out/$1" ]; then
+        fail "the program $1 is not proved: target/$1.log says why"
+    fi
+    cp "$here/crates/$1/out/$1" "$here/target/bin/$1"
     mv "$here/target/$1.built.new" "$here/target/$1.built"
+}
+
+archive() {
+    [ -d "$here/crates/$1_c" ] && of=$1_c || of=$1
+    mkdir -p "$here/target/staticlib"
+    (cd "$here/crates/$of" && rt lib) >"$here/target/staticlib/$1.log" 2>&1 || { tail -n 20 "$here/target/staticlib/$1.log" >&2; return 1; }
+    cp "$here/crates/$of/out/lib$of.a" "$here/target/staticlib/lib$1.a"
 }
 
 # the lines of rt as they come, to the file and, those of its own, to standard error; at the end the last one
@@ -65,7 +79,8 @@ said_by_rt() {
     printf '%s\n' "$said"
 }
 
-# a program of the toolchain is for x86-64; on another processor the toolchain has an emulator beside its compiler
+# with the toolchain's own C library; a program of the toolchain is for x86-64, and where a toolchain has an emulator beside
+# its compiler, for another processor, by that
 start_program() {
     tools=$(cat "$here/target/$1.built")
     program=$here/target/bin/$1
@@ -78,14 +93,9 @@ start_program() {
 
 run_program() {
     ended=0
-    exec 4>&1
-    told=$(start_program "$@" 3>&1 >&4 4>&-) || ended=$?
-    case $told$ended in
-    00 | 10 | 20) exit "$told" ;;
-    # it was said already why there is none
-    2) exit 2 ;;
-    # whoever read the output has gone, which the system says by a signal: no words are wanted
-    141) exit 2 ;;
+    start_program "$@" || ended=$?
+    case $ended in
+    0 | 1 | 2) exit "$ended" ;;
     esac
     fail "the program $1 broke off, with status $ended"
 }
