@@ -6,7 +6,8 @@
 #   build PROGRAM                 has a program proved and built, as target/bin/PROGRAM, unless it is built and no crate
 #                                 has changed
 #   start_program PROGRAM WORDS   runs it
-#   run_program PROGRAM WORDS     runs it, and exits with its exit status where that is 0, 1 or 2; with 2 where it broke off
+#   run_program PROGRAM WORDS     runs it, and exits with the status that it tells, a digit whose number is its exit status:
+#                                 48, 49 or 50; with 2 where it tells none
 #   archive CRATE                 has the static library of a crate proved and built, as target/staticlib/libCRATE.a: that
 #                                 of CRATE_c where there is such a crate, which exports the calls of the library CRATE
 # Without the toolchain in PATH a program that is built still runs: target/PROGRAM.built says where its C library is.
@@ -95,7 +96,9 @@ run_program() {
     ended=0
     start_program "$@" || ended=$?
     case $ended in
-    0 | 1 | 2) exit "$ended" ;;
+    48 | 49 | 50) exit $((ended - 48)) ;;
+    # it was said already why there is none
+    2) exit 2 ;;
     esac
     fail "the program $1 broke off, with status $ended"
 }

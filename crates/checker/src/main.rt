@@ -9,7 +9,8 @@ use event_list::listing::{after_read, call_once, move_unread_to_front, start};
 use event_list::types::{Listing, Next};
 use reading::arguments::mode_at;
 use reading::read_input;
-use reading::telling::fail;
+use reading::telling::{fail, has_no_reader};
+use std::io;
 use std::rt::HostRuntime;
 use whole::check::{seen_after, verdict_at};
 use whole::line::{MOST_LINE, put_verdict};
@@ -26,14 +27,20 @@ struct Progress {
     is_last: bool,
 }
 
-// The verdict's line.
-fn say(rt: &HostRuntime, v: Verdict) {
+// The verdict's line. Where whoever read it has gone, no word is said, and the program ends with that error.
+fn say(rt: &HostRuntime, v: Verdict) -> io::Result<()> {
     let mut text = [0u8; MOST_LINE];
     let n = put_verdict(v, &mut text);
-    if rt.write_all(&text[0..n]).is_ok() {
-        return;
+    match rt.write_all(&text[0..n]) {
+        Ok(()) => {}
+        Err(error) => {
+            if has_no_reader(&error) {
+                return Err(error);
+            }
+            let _ = rt.eprintln("ebml-check: the verdict cannot be written");
+        }
     }
-    let _ = rt.eprintln("ebml-check: the verdict cannot be written");
+    Ok(())
 }
 
 // The unread bytes move to the front, and the buffer is filled behind them.
@@ -58,58 +65,59 @@ fn read_more(rt: &HostRuntime, buffer: &mut [u8], l: Listing, seen: Seen) -> Pro
 }
 
 // One call of the decoder, and what is to be done after it.
-fn step(rt: &HostRuntime, buffer: &mut [u8], l: Listing, seen: Seen) -> Progress {
+fn step(rt: &HostRuntime, buffer: &mut [u8], l: Listing, seen: Seen) -> io::Result<Progress> {
     let t = call_once(buffer, l);
     let answer = t.answer;
     let next = t.next;
     let listing = t.listing;
     let decoder = listing.decoder;
     match next {
-        Next::Line => Progress {
+        Next::Line => Ok(Progress {
             listing,
             seen: seen_after(seen, answer, decoder),
             is_last: false,
-        },
+        }),
         Next::Last => {
-            say(rt, verdict_at(seen, answer, decoder));
-            Progress {
+            say(rt, verdict_at(seen, answer, decoder))?;
+            Ok(Progress {
                 listing,
                 seen,
                 is_last: true,
-            }
+            })
         }
-        Next::Read => read_more(rt, buffer, listing, seen),
+        Next::Read => Ok(read_more(rt, buffer, listing, seen)),
     }
 }
 
 // Nothing says that an input ends, so the steps are counted down from a number that no run uses up.
-fn check(rt: &HostRuntime, strict: bool, buffer: &mut [u8]) {
+fn check(rt: &HostRuntime, strict: bool, buffer: &mut [u8]) -> io::Result<()> {
     let mut listing = start(strict);
     let mut seen = whole::check::start();
     let mut steps_left = u64::MAX;
     while 0 < steps_left {
-        let s = step(rt, buffer, listing, seen);
+        let s = step(rt, buffer, listing, seen)?;
         if s.is_last {
-            return;
+            return Ok(());
         }
         listing = s.listing;
         seen = s.seen;
         steps_left -= 1;
     }
+    Ok(())
 }
 
 // The verdict on standard input, read strictly or as ported.
-fn check_input(rt: &HostRuntime, strict: bool) {
+fn check_input(rt: &HostRuntime, strict: bool) -> io::Result<()> {
     let mut buffer = [0u8; BUFFER_SIZE];
-    check(rt, strict, &mut buffer);
+    check(rt, strict, &mut buffer)
 }
 
 // The same in the mode that the argument names.
-fn main(rt: HostRuntime) {
+fn main(rt: HostRuntime) -> io::Result<()> {
     let mode = mode_at(&rt, 1);
     if mode.is_known {
-        check_input(&rt, mode.strict);
-        return;
+        return check_input(&rt, mode.strict);
     }
     let _ = rt.eprintln("ebml-check: the mode is ported or strict");
+    Ok(())
 }

@@ -2,8 +2,8 @@
 // and writes: what it prints and what it does with its buffer is proved in event_list and named_list.
 //
 // With no argument it prints the list of document 01. With one, `plain` or `names`, it prints that list or the one for
-// people, and its exit status tells how the list ended. A second argument, `ported` or `strict`, says how the record is
-// read; without it, as ported.
+// people, and its exit status tells how the list ended, as a digit's number. A second argument, `ported` or `strict`,
+// says how the record is read; without it, as ported.
 #![tactic(auto)]
 
 mod arguments;

@@ -26,10 +26,11 @@ pub fn status_of(answer: Answer) -> u8
     }
 }
 
-// The exit status that tells a status to whoever asked for it, by an argument; 0 where nobody did.
+// The exit status that tells a status to whoever asked for it, by an argument: the digit's own number, which no program
+// has that did not start or that broke off. 0 where nobody asked.
 pub fn tell(rt: &HostRuntime, status: u8) -> ExitCode {
     if is_given(rt, 1) {
-        return ExitCode::from(status.wrapping_sub(b'0'));
+        return ExitCode::from(status);
     }
     ExitCode::SUCCESS
 }

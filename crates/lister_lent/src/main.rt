@@ -1,13 +1,15 @@
 // Lists D1, D2 and D3 of document 01 as the event lister does, with the record lent by reference at each call.
 #![tactic(auto)]
 
-ghost use Rattle.std.specs.Prelude.{◌≤◌, length};
+ghost use Rattle.std.specs.Prelude.{◌≤◌, length, IfOk};
 
 mod turn;
 
 use crate::turn::{Turned, turn, turn_eof};
 use decoder_rules::types::{Answer, TagDecoder};
 use event_list::lines::{MOST_LINE, put_line};
+use std::io;
+use std::io::ErrorKind;
 use std::rt::HostRuntime;
 use table::bench::{entries, parts};
 use tag_decoder::settings::new;
@@ -24,14 +26,20 @@ struct Progress {
     is_last: bool,
 }
 
-// One line of the list.
-fn print(rt: &HostRuntime, answer: Answer, place: u64) {
+// One line of the list. Where whoever read the list has gone, no word is said, and the program ends with that error.
+fn print(rt: &HostRuntime, answer: Answer, place: u64) -> io::Result<()> {
     let mut text = [0u8; MOST_LINE];
     let n = put_line(answer, place, &mut text);
-    if rt.write_all(&text[0..n]).is_ok() {
-        return;
+    match rt.write_all(&text[0..n]) {
+        Ok(()) => {}
+        Err(error) => {
+            if error.kind() == ErrorKind::BrokenPipe {
+                return Err(error);
+            }
+            let _ = rt.eprintln("lister_lent: the list cannot be written");
+        }
     }
-    let _ = rt.eprintln("lister_lent: the list cannot be written");
+    Ok(())
 }
 
 // The call that is due, on a lent record.
@@ -48,9 +56,9 @@ fn call(ended: bool, d: TagDecoder, unread: &[u8]) -> Turned
 }
 
 // One call, and what it leaves to be done.
-fn step(rt: &HostRuntime, input: &[u8], p: Progress) -> Progress
+fn step(rt: &HostRuntime, input: &[u8], p: Progress) -> io::Result<Progress>
     requires { p.at ≤ length input.now }
-    ensures { result.at ≤ length input.now }
+    ensures { IfOk result (λ next. next.at ≤ length input.now) }
 {
     let at = p.at;
     let ended = p.ended;
@@ -64,27 +72,27 @@ fn step(rt: &HostRuntime, input: &[u8], p: Progress) -> Progress
     match answer {
         Answer::Event(_) => is_last = false,
         Answer::NeedMore { .. } => {
-            return Progress {
+            return Ok(Progress {
                 state,
                 at: next,
                 ended: true,
                 is_last: ended,
-            };
+            });
         }
         Answer::Finished => {}
         Answer::Refused(_) => {}
     }
-    print(rt, answer, t.place);
-    Progress {
+    print(rt, answer, t.place)?;
+    Ok(Progress {
         state,
         at: next,
         ended,
         is_last,
-    }
+    })
 }
 
 // The list of a whole input.
-fn list(rt: &HostRuntime, input: &[u8]) {
+fn list(rt: &HostRuntime, input: &[u8]) -> io::Result<()> {
     let state = new();
     let mut p = Progress {
         state,
@@ -94,20 +102,21 @@ fn list(rt: &HostRuntime, input: &[u8]) {
     };
     let mut turns = MOST_TURNS;
     while 0 < turns {
-        p = step(rt, input, p);
+        p = step(rt, input, p)?;
         if p.is_last {
-            return;
+            return Ok(());
         }
         turns -= 1;
     }
+    Ok(())
 }
 
-fn main(rt: HostRuntime) {
+fn main(rt: HostRuntime) -> io::Result<()> {
     let d1 = [
         0x4E, 0x01, 0x89, 0xA1, 0x87, 0xA2, 0x81, 0x78, 0xA3, 0x82, 0x6D, 0x6C,
     ];
     let d2 = [0x4E, 0x01, 0xFF, 0xA1, 0xFF, 0xA2, 0x81, 0x78];
-    list(&rt, &d1);
-    list(&rt, &d2);
-    list(&rt, &d1[0..8]);
+    list(&rt, &d1)?;
+    list(&rt, &d2)?;
+    list(&rt, &d1[0..8])
 }

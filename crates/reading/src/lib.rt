@@ -5,7 +5,7 @@
 pub mod arguments;
 pub mod telling;
 
-ghost use Rattle.std.specs.Prelude.{◌≢◌, ◌≤◌, ◌<◌, ◌≡◌, length, take, pos, IfOk, IfErr, OnErr, IsFalse};
+ghost use Rattle.std.specs.Prelude.{◌≢◌, ◌≤◌, ◌<◌, ◌≡◌, length, take, IfOk, IfErr, OnErr, IsFalse};
 ghost use Rattle.std.specs.Io.KnownBytes.{Consumes, IsAtEnd, Keeps};
 ghost use Rattle.std.specs.IoError.{error_kind};
 
@@ -17,18 +17,9 @@ use std::time::Duration;
 // A pause is a thousandth of a second, in nanoseconds.
 const PAUSE: u64 = 1_000_000;
 
-// Sleeps for this time: 0. A signal does not cut it short.
-fn sleep_for<C: Clock>(clock: &C, asked: Duration) -> i32
-    ensures { result ≡ pos 0 }
-{
-    clock.sleep(asked);
-    0
-}
-
-// A pause.
+// A pause; a signal does not cut it short.
 fn pause<C: Clock>(clock: &C) {
-    let asked = Duration::from_nanos(PAUSE);
-    sleep_for(clock, asked);
+    clock.sleep(Duration::from_nanos(PAUSE));
 }
 
 // Whether a read that failed with this error is made again: one that a signal interrupted, at once, and one of an input

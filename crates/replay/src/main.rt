@@ -1,6 +1,8 @@
 // Answers the script of calls on standard input, a line for a call, on standard output.
 #![tactic(auto)]
 
-fn main(rt: HostRuntime) {
-    script::run::answer_stdin(&rt);
+use std::io;
+
+fn main(rt: HostRuntime) -> io::Result<()> {
+    script::run::answer_stdin(&rt)
 }

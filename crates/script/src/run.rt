@@ -1,6 +1,6 @@
 // Reads the lines of standard input and writes their answers.
 
-ghost use Rattle.std.specs.Prelude.{◌≡◌, [], ◌+◌, ◌≤◌, ◌<◌, length};
+ghost use Rattle.std.specs.Prelude.{◌≡◌, [], ◌+◌, ◌≤◌, ◌<◌, length, IfOk};
 ghost use Rattle.script_table.specs.HeldIn.{HeldIn};
 ghost use Rattle.script.specs.Within.{Within};
 
@@ -8,6 +8,7 @@ use crate::answer;
 use crate::session::{Answered, Session, new_session};
 use script_text::answers::{bad_line, put, put_text};
 use script_text::words::find;
+use std::io;
 use std::io::Read;
 use std::rt::HostRuntime;
 
@@ -75,15 +76,15 @@ fn answer_line(
 }
 
 // Where the next answer goes: the output is written first where little of it is left.
-fn make_room(rt: &HostRuntime, out: &[u8], filled: usize) -> usize
+fn make_room(rt: &HostRuntime, out: &[u8], filled: usize) -> io::Result<usize>
     requires { filled ≤ length out.now }
-    ensures { result ≤ length out.now }
+    ensures { IfOk result (λ start. start ≤ length out.now) }
 {
     if out.len() - filled < ANSWER_ROOM {
-        let _ = rt.write_all(&out[0..filled]);
-        return 0;
+        rt.write_all(&out[0..filled])?;
+        return Ok(0);
     }
-    filled
+    Ok(filled)
 }
 
 // A sum apart from its caller: a proof that stands far from a function's entry does not see there that a length fits a
@@ -102,13 +103,13 @@ fn finish_line(
     parts: &mut [u64],
     out: &mut [u8],
     p: Progress,
-) -> Progress
+) -> io::Result<Progress>
     requires { Within p line.now entries.old parts.old out.old }
-    ensures { Within result line.now entries.old parts.old out.old }
+    ensures { IfOk result (λ next. Within next line.now entries.old parts.old out.old) }
 {
     let held = p.held;
     let session = p.session;
-    let start = make_room(rt, out, p.filled);
+    let start = make_room(rt, out, p.filled)?;
     let a = answer_line(
         &line[0..held],
         p.is_over,
@@ -118,12 +119,12 @@ fn finish_line(
         &mut out[start..],
     );
     let next = a.session;
-    Progress {
+    Ok(Progress {
         held: 0,
         is_over: false,
         filled: end_of(out, start, a.count),
         session: next,
-    }
+    })
 }
 
 // How many bytes are taken up to the newline at `end`, and with it; all where there is none.
@@ -143,9 +144,9 @@ fn feed_line(
     parts: &mut [u64],
     out: &mut [u8],
     p: Progress,
-) -> Fed
+) -> io::Result<Fed>
     requires { (0 < length part.now) × Within p line.old entries.old parts.old out.old }
-    ensures { (0 < result.taken) × (result.taken ≤ length part.now) × Within result.progress line.old entries.old parts.old out.old }
+    ensures { IfOk result (λ fed. (0 < fed.taken) × (fed.taken ≤ length part.now) × Within fed.progress line.old entries.old parts.old out.old) }
 {
     let end = find(b'\n', part, 0);
     let taken = taken_with(part, end);
@@ -154,15 +155,15 @@ fn feed_line(
     next.is_over = p.is_over || line.len() - held < end;
     next.held = put_text(&part[0..end], line, held);
     if end == part.len() {
-        return Fed {
+        return Ok(Fed {
             progress: next,
             taken,
-        };
+        });
     }
-    Fed {
-        progress: finish_line(rt, line, entries, parts, out, next),
+    Ok(Fed {
+        progress: finish_line(rt, line, entries, parts, out, next)?,
         taken,
-    }
+    })
 }
 
 fn feed(
@@ -173,18 +174,18 @@ fn feed(
     parts: &mut [u64],
     out: &mut [u8],
     p: Progress,
-) -> Progress
+) -> io::Result<Progress>
     requires { Within p line.old entries.old parts.old out.old }
-    ensures { Within result line.old entries.old parts.old out.old }
+    ensures { IfOk result (λ next. Within next line.old entries.old parts.old out.old) }
 {
     let mut progress = p;
     let mut at: usize = 0;
     while at < chunk.len() {
-        let fed = feed_line(rt, &chunk[at..], line, entries, parts, out, progress);
+        let fed = feed_line(rt, &chunk[at..], line, entries, parts, out, progress)?;
         progress = fed.progress;
         at += fed.taken;
     }
-    progress
+    Ok(progress)
 }
 
 // One read; what it answers is written before the next.
@@ -195,26 +196,26 @@ fn read_some(
     parts: &mut [u64],
     out: &mut [u8],
     p: Progress,
-) -> Turn
+) -> io::Result<Turn>
     requires { Within p line.old entries.old parts.old out.old }
-    ensures { Within result.progress line.old entries.old parts.old out.old }
+    ensures { IfOk result (λ turn. Within turn.progress line.old entries.old parts.old out.old) }
 {
     let mut chunk = [0u8; CHUNK];
     let n = rt.stdin().read(&mut chunk).unwrap_or(0);
     if n == 0 {
-        return Turn {
+        return Ok(Turn {
             progress: p,
             is_last: true,
-        };
+        });
     }
-    let mut next = feed(rt, &chunk[0..n], line, entries, parts, out, p);
+    let mut next = feed(rt, &chunk[0..n], line, entries, parts, out, p)?;
     let filled = next.filled;
-    let _ = rt.write_all(&out[0..filled]);
+    rt.write_all(&out[0..filled])?;
     next.filled = 0;
-    Turn {
+    Ok(Turn {
         progress: next,
         is_last: false,
-    }
+    })
 }
 
 fn begin() -> Progress
@@ -236,20 +237,20 @@ fn read_all(
     entries: &mut [u64],
     parts: &mut [u64],
     out: &mut [u8],
-) -> Progress
-    ensures { Within result line.old entries.old parts.old out.old }
+) -> io::Result<Progress>
+    ensures { IfOk result (λ p. Within p line.old entries.old parts.old out.old) }
 {
     let mut progress = begin();
     let mut turns = u64::MAX;
     while 0 < turns {
-        let t = read_some(rt, line, entries, parts, out, progress);
+        let t = read_some(rt, line, entries, parts, out, progress)?;
         progress = t.progress;
         if t.is_last {
-            return progress;
+            return Ok(progress);
         }
         turns -= 1;
     }
-    progress
+    Ok(progress)
 }
 
 // The last line may lack its newline.
@@ -259,18 +260,18 @@ fn answer_all(
     entries: &mut [u64],
     parts: &mut [u64],
     out: &mut [u8],
-) {
-    let p = read_all(rt, line, entries, parts, out);
-    let last = finish_line(rt, line, entries, parts, out, p);
+) -> io::Result<()> {
+    let p = read_all(rt, line, entries, parts, out)?;
+    let last = finish_line(rt, line, entries, parts, out, p)?;
     let filled = last.filled;
-    let _ = rt.write_all(&out[0..filled]);
+    rt.write_all(&out[0..filled])
 }
 
-// Answers the lines of the standard input on the standard output.
-pub fn answer_stdin(rt: &HostRuntime) {
+// Answers the lines of the standard input on the standard output; an answer that cannot be written is the last.
+pub fn answer_stdin(rt: &HostRuntime) -> io::Result<()> {
     let mut line = [0u8; MOST_LINE];
     let mut entries = [0u64; MOST_WORDS];
     let mut parts = [0u64; MOST_WORDS];
     let mut out = [0u8; OUTPUT];
-    answer_all(rt, &mut line, &mut entries, &mut parts, &mut out);
+    answer_all(rt, &mut line, &mut entries, &mut parts, &mut out)
 }

@@ -2,6 +2,8 @@
 // in `stdout`.
 #![tactic(auto)]
 
-fn main(rt: HostRuntime) {
-    script::run::answer_stdin(&rt);
+use std::io;
+
+fn main(rt: HostRuntime) -> io::Result<()> {
+    script::run::answer_stdin(&rt)
 }
