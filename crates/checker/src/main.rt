@@ -27,7 +27,7 @@ struct Progress {
     is_last: bool,
 }
 
-// The verdict's line. Where whoever read it has gone, no word is said, and the program ends with that error.
+// The verdict's line. Where whoever read it has gone, the program ends with that error.
 fn say(rt: &HostRuntime, v: Verdict) -> io::Result<()> {
     let mut text = [0u8; MOST_LINE];
     let n = put_verdict(v, &mut text);

@@ -26,7 +26,7 @@ struct Progress {
     is_last: bool,
 }
 
-// One line of the list. Where whoever read the list has gone, no word is said, and the program ends with that error.
+// One line of the list. Where whoever read the list has gone, the program ends with that error.
 fn print(rt: &HostRuntime, answer: Answer, place: u64) -> io::Result<()> {
     let mut text = [0u8; MOST_LINE];
     let n = put_line(answer, place, &mut text);
