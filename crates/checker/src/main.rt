@@ -31,14 +31,11 @@ struct Progress {
 fn say(rt: &HostRuntime, v: Verdict) -> io::Result<()> {
     let mut text = [0u8; MOST_LINE];
     let n = put_verdict(v, &mut text);
-    match rt.write_all(&text[0..n]) {
-        Ok(()) => {}
-        Err(error) => {
-            if has_no_reader(&error) {
-                return Err(error);
-            }
-            let _ = rt.eprintln("ebml-check: the verdict cannot be written");
+    if let Err(error) = rt.write_all(&text[0..n]) {
+        if has_no_reader(&error) {
+            return Err(error);
         }
+        let _ = rt.eprintln("ebml-check: the verdict cannot be written");
     }
     Ok(())
 }

@@ -1,9 +1,9 @@
 // The event lister: reads a record on standard input and prints its list, with the bench table. It only reads, calls
 // and writes: what it prints and what it does with its buffer is proved in event_list and named_list.
 //
-// With no argument it prints the list of document 01. With one, `plain` or `names`, it prints that list or the one for
-// people, and its exit status tells how the list ended, as a digit's number. A second argument, `ported` or `strict`,
-// says how the record is read; without it, as ported.
+// With no argument it prints the plain list, a line for each event and one that says how it ended. With one, `plain` or
+// `names`, it prints that list or the one for people, and its exit status tells how the list ended, as a digit's number.
+// A second argument, `ported` or `strict`, says how the record is read; without it, as ported.
 #![tactic(auto)]
 
 mod arguments;

@@ -30,14 +30,11 @@ struct Progress {
 fn print(rt: &HostRuntime, answer: Answer, place: u64) -> io::Result<()> {
     let mut text = [0u8; MOST_LINE];
     let n = put_line(answer, place, &mut text);
-    match rt.write_all(&text[0..n]) {
-        Ok(()) => {}
-        Err(error) => {
-            if error.kind() == ErrorKind::BrokenPipe {
-                return Err(error);
-            }
-            let _ = rt.eprintln("lister_lent: the list cannot be written");
+    if let Err(error) = rt.write_all(&text[0..n]) {
+        if error.kind() == ErrorKind::BrokenPipe {
+            return Err(error);
         }
+        let _ = rt.eprintln("lister_lent: the list cannot be written");
     }
     Ok(())
 }

@@ -1,5 +1,5 @@
--- Document 02, CR 1, of the decoder's calls: how many bytes are missing behind further ones, and whether as many bytes as
--- are missing are ever enough. Assumes nothing.
+-- Of the decoder's calls: how many bytes are missing behind further ones, and whether as many bytes as are missing are
+-- ever enough. Assumes nothing.
 use Prim.Native.Nat.{ℕ, ◌+◌, ◌≤◌}
 use mathlib.Core.Path.{◌≡◌, refl, sym, ap, ◌∙◌}
 use mathlib.Core.Bool.{Bool, true, false}

@@ -1,5 +1,6 @@
--- Document 02, CR 1, of the decoder's calls: "With fewer further bytes the answer is still need-more, unless 12 comes
--- first." Assumes nothing. (It stands apart from the law that it cites, which a must-fail edit has wrong.)
+-- A call of the decoder that asked for more, made again with fewer further bytes than it said are missing, asks for more
+-- still, unless refusal 12 comes first: the position and all the bytes are at most 2^62. Assumes nothing. (It stands
+-- apart from the law that it cites, which a must-fail edit has wrong.)
 use Prim.Native.Nat.{ℕ, ◌+◌, ◌≤◌, ◌<◌}
 use mathlib.Core.Path.{◌≡◌, ◌∙◌}
 use mathlib.Core.Bool.{true}
