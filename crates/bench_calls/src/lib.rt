@@ -1,5 +1,5 @@
-// For the bench alone: what its drivers call to measure and to compare. Proved safe and ending; a contract says no more
-// than a caller here needs.
+//! For the bench alone: what its drivers call to measure and to compare. Proved safe and ending; a contract says no
+//! more than a caller here needs.
 #![tactic(auto)]
 
 pub mod blocks;

@@ -1,39 +1,27 @@
-// A recovery over bytes without a valid header, and what it is measured by: a header read at each byte.
-
-ghost use Rattle.std.specs.Prelude.{◌≤◌, length};
+//! A recovery over bytes without a valid header, and what it is measured by: a header read at each byte.
 
 use tag_decoder::recovery::try_recover;
 use tag_decoder::settings::new;
 use tag_parse::header::read_header;
-use tag_parse::types::ReadHeader;
+use tools::status::Status;
 
-// Recovers with a lent table from fresh; the result is how many bytes were passed over.
+/// Recovers with a lent table from fresh; the result is how many bytes were passed over.
 #[unsafe(no_mangle)]
 pub extern "C" fn bench_recover(entries: &[u64], parts: &[u64], input: &[u8]) -> u64 {
-    let r = try_recover(entries, parts, new(), input);
-    r.taken as u64
+    try_recover(entries, parts, new(), input).taken as u64
 }
 
-// 1 where a header reads, else 0.
-fn reads(r: ReadHeader) -> u64
-    ensures { result ≤ 1 }
-{
-    match r {
-        ReadHeader::NeedMore { .. } => 0,
-        ReadHeader::Refused(_) => 0,
-        ReadHeader::Header(_) => 1,
-    }
-}
-
-// Reads a header at each byte; the result is at how many there is one.
+/// Reads a header at each byte; the result is at how many there is one.
 #[unsafe(no_mangle)]
 pub extern "C" fn bench_read_headers(entries: &[u64], parts: &[u64], input: &[u8]) -> u64 {
-    let n = input.len();
     let mut count: u64 = 0;
-    let mut i: usize = 0;
-    while i < n {
-        count = std::num::wrapping_add_u64(count, reads(read_header(entries, parts, &input[i..])));
-        i += 1;
+    for i in 0..input.len() {
+        if matches!(
+            read_header(entries, parts, &input[i..]),
+            Ok(Status::Complete(_))
+        ) {
+            count = count.wrapping_add(1);
+        }
     }
     count
 }

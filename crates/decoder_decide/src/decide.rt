@@ -1,4 +1,4 @@
-// The steps together, from the last to the first.
+//! The steps together, from the last to the first.
 
 ghost use Rattle.std.specs.Prelude.{true, ◌≡◌, ◌≤◌, length};
 ghost use Rattle.table.specs.Table.{table_of, parts_of, parts_in};
@@ -15,8 +15,7 @@ use crate::closing::close_or_fault;
 use crate::element::step11;
 use crate::header::{settling_note, valid_header};
 use decoder_look::summary::{HeaderView, Summary, UNBOUNDED};
-use decoder_rules::errors::parse_error;
-use decoder_rules::types::{Action, Check, Decision, DecodeError, Note};
+use decoder_rules::types::{Action, Decision, DecodeError};
 use spec_util::place::left_open;
 use spec_util::types::MOST_OPEN;
 use table::lookup::is_typed;
@@ -24,8 +23,9 @@ use table::parts::{path_length, path_part};
 use table::shape::good_shape;
 use table::types::{Path, PathPart};
 use tag_parse::header::read_header;
-use tag_parse::types::{ReadHeader, TagHeader};
+use tag_parse::types::TagHeader;
 use tools::element_id::element_id_length;
+use tools::status::Status;
 
 // The bytes of the least header: one of its ID, one of its size.
 const LEAST_HEADER: usize = 2;
@@ -34,37 +34,25 @@ const LEAST_HEADER: usize = 2;
 const LONGEST_STRICT_ID: usize = 4;
 
 // A decision with no note.
-fn plain(action: Action) -> Decision
+fn plain(action: Result<Action, DecodeError>) -> Decision
     ensures { result ≡ plain action }
 {
-    Decision {
-        note: Note::NoNote,
-        action,
-    }
+    Decision { note: None, action }
 }
 
 // Whether the ID has a form that is taken, strictly or as ported.
+#[tactic(auto, unfolding(decoder_rules::specs::OneCall::good_form))]
 fn good_form(strict: bool, id: u64) -> bool
     ensures { result ≡ good_form strict id }
 {
-    if strict {
-        return element_id_length(id) <= LONGEST_STRICT_ID;
-    }
-    true
+    !strict || element_id_length(id) <= LONGEST_STRICT_ID
 }
 
-// 6: the ID's form is taken, and it has a type, or needs none.
+/// 6: the ID's form is taken, and it has a type, or needs none.
 pub fn is_id_allowed(strict: bool, allow_ids: bool, h: TagHeader) -> bool
     ensures { result ≡ is_id_allowed strict allow_ids h }
 {
-    let kind = h.kind;
-    if !good_form(strict, h.id) {
-        return false;
-    }
-    if is_typed(kind) {
-        return true;
-    }
-    allow_ids
+    good_form(strict, h.id) && (is_typed(h.kind) || allow_ids)
 }
 
 // What is refused where 6 refuses an ID: 80 for its form, else 15.
@@ -72,9 +60,10 @@ fn id_refusal(strict: bool, id: u64) -> DecodeError
     ensures { result ≡ id_refusal strict id }
 {
     if good_form(strict, id) {
-        return DecodeError::InvalidTagId;
+        DecodeError::InvalidTagId
+    } else {
+        DecodeError::InvalidIdForm
     }
-    DecodeError::InvalidIdForm
 }
 
 // 8 to 11, of a record that has its note.
@@ -86,15 +75,13 @@ fn steps8_11(
     knowns: &[bool],
     h: TagHeader,
     input: &[u8],
-) -> Action
+) -> Result<Action, DecodeError>
     requires ids_len { (length ids.now ≡ most_open) × (length knowns.now ≡ most_open) }
     requires good_view { GoodView view × GoodHeader entries.now parts.now h }
     ensures { ForEveryRecordSeenAs view ids.now knowns.now (λ d. result ≡ steps8_11 (table_of entries.now parts.now) d h input.now) }
 {
     let count = view.count;
-    if let Check::Fail(e) = valid_header(entries, parts, view, ids, knowns, h) {
-        return Action::Refuse(e);
-    }
+    valid_header(entries, parts, view, ids, knowns, h)?;
     let strict = view.settings.strict;
     let kept = left_open(strict, entries, parts, h.id, ids, knowns, count);
     if kept < count {
@@ -109,7 +96,7 @@ fn implied_id(part: PathPart) -> u64
 {
     match part {
         PathPart::Id(id) => id,
-        PathPart::Global { min: _, max: _ } => 0,
+        PathPart::Global { .. } => 0,
     }
 }
 
@@ -117,13 +104,11 @@ fn implied_id(part: PathPart) -> u64
 fn settled_view(view: HeaderView, count: usize) -> HeaderView
     ensures { result ≡ settled_view view count }
 {
-    let settings = view.settings;
     HeaderView {
-        settings,
-        position: view.position,
         settled: true,
         count,
         least_end: UNBOUNDED,
+        ..view
     }
 }
 
@@ -135,17 +120,15 @@ fn settling(
     path: Path,
     h: TagHeader,
     input: &[u8],
-) -> Action
+) -> Result<Action, DecodeError>
     requires { GoodView view × GoodHeader entries.now parts.now h × (length (parts_in (parts_of parts.now) path) ≤ most_parts) }
     ensures { ForSettled view (λ d. result ≡ steps8_11 (table_of entries.now parts.now) (settled_to d (parts_in (parts_of parts.now) path)) h input.now) }
 {
     let count = path_length(parts, path);
     let knowns = [false; MOST_OPEN];
     let mut ids = [0u64; MOST_OPEN];
-    let mut i: usize = 0;
-    while i < count {
+    for i in 0..count {
         ids[i] = implied_id(path_part(parts, path, i));
-        i += 1;
     }
     let noted = settled_view(view, count);
     steps8_11(entries, parts, noted, &ids, &knowns, h, input)
@@ -167,10 +150,10 @@ fn steps6_11(
 {
     let strict = view.settings.strict;
     if !is_id_allowed(strict, view.settings.allow_ids, h) {
-        return plain(Action::Refuse(id_refusal(strict, h.id)));
+        return plain(Err(id_refusal(strict, h.id)));
     }
     let note = settling_note(parts, view.settled, h);
-    if let Note::Settle(path) = note {
+    if let Some(path) = note {
         return Decision {
             note,
             action: settling(entries, parts, view, path, h, input),
@@ -179,7 +162,7 @@ fn steps6_11(
     plain(steps8_11(entries, parts, view, ids, knowns, h, input))
 }
 
-// What a call does with a table of good shape (10): the steps in their order, on what was seen of the record.
+/// What a call does with a table of good shape (10): the steps in their order, on what was seen of the record.
 pub fn decide_shaped(
     entries: &[u64],
     parts: &[u64],
@@ -195,36 +178,31 @@ pub fn decide_shaped(
     let view = summary.view;
     let count = view.count;
     let n = input.len();
-    if let Check::Fail(e) = check_11_to_13(
-        summary.is_state_good,
-        view.position,
-        summary.finished,
-        n,
-    ) {
-        return plain(Action::Refuse(e));
+    if let Err(e) = check_11_to_13(summary.is_state_good, view.position, summary.finished, n) {
+        return plain(Err(e));
     }
     if 0 < summary.waiting_count {
-        return plain(Action::HandOut);
+        return plain(Ok(Action::HandOut));
     }
     if summary.finished {
-        return plain(Action::Finish);
+        return plain(Ok(Action::Finish));
     }
     if summary.first_full < count {
         return plain(close_or_fault(entries, parts, ids, summary.first_full, count));
     }
     if n == 0 {
-        return plain(Action::NeedMore {
+        return plain(Ok(Action::NeedMore {
             missing: LEAST_HEADER,
-        });
+        }));
     }
     match read_header(entries, parts, input) {
-        ReadHeader::NeedMore { missing } => plain(Action::NeedMore { missing }),
-        ReadHeader::Refused(e) => plain(Action::Refuse(parse_error(e))),
-        ReadHeader::Header(h) => steps6_11(entries, parts, view, ids, knowns, h, input),
+        Ok(Status::NeedMore { missing }) => plain(Ok(Action::NeedMore { missing })),
+        Err(e) => plain(Err(e.into())),
+        Ok(Status::Complete(h)) => steps6_11(entries, parts, view, ids, knowns, h, input),
     }
 }
 
-// What a call does: 10, and then the other steps.
+/// What a call does: 10, and then the other steps.
 pub fn decide(
     entries: &[u64],
     parts: &[u64],
@@ -237,7 +215,7 @@ pub fn decide(
     ensures { ForEveryRecordSummedUpAs summary ids.now knowns.now (λ d. result ≡ decide entries.now parts.now d input.now) }
 {
     if !good_shape(entries, parts) {
-        return plain(Action::Refuse(DecodeError::TableShape));
+        return plain(Err(DecodeError::TableShape));
     }
     decide_shaped(entries, parts, summary, ids, knowns, input)
 }

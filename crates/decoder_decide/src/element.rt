@@ -1,4 +1,4 @@
-// Step 11: a Start, or a payload.
+//! Step 11: a Start, or a payload.
 
 ghost use Rattle.std.specs.Prelude.{true, ◌≡◌, ◌≤◌, ◌<◌};
 ghost use Rattle.decoder_rules.specs.OneCall.{data_or, read_element, element_of, step11};
@@ -6,25 +6,31 @@ ghost use Rattle.decoder_decide.specs.Bounds.{longest_header, SmallSize, FitsKin
 ghost use Rattle.tag_parse.specs.Payload.{is_integer};
 ghost use Rattle.decoder_rules.specs.Record.{farthest, size_limit};
 
-use decoder_rules::errors::parse_error;
 use decoder_rules::types::{Action, DecodeError};
 use spec_util::types::MOST_OPEN;
 use table::lookup::is_master;
 use tag_parse::payload::value_of;
-use tag_parse::types::{EBMLSize, Range, ReadValue, TagHeader};
+use tag_parse::types::{EBMLSize, ParseError, Range, TagHeader, TagValue};
 
 // The Data, or what reading the payload refuses.
-fn data_or(id: u64, taken: usize, r: ReadValue) -> Action
-    ensures { result ≡ data_or id taken r }
+fn data_or(id: u64, taken: usize, read: Result<TagValue, ParseError>) -> Result<Action, DecodeError>
+    ensures { result ≡ data_or id taken read }
 {
-    match r {
-        ReadValue::Value(value) => Action::Data { id, value, taken },
-        ReadValue::Refused(e) => Action::Refuse(parse_error(e)),
-    }
+    Ok(Action::Data {
+        id,
+        value: read?,
+        taken,
+    })
 }
 
 // An element with n bytes of payload after its header.
-fn read_element(strict: bool, position: u64, h: TagHeader, n: u64, input: &[u8]) -> Action
+fn read_element(
+    strict: bool,
+    position: u64,
+    h: TagHeader,
+    n: u64,
+    input: &[u8],
+) -> Result<Action, DecodeError>
     requires { (position ≤ farthest) × (h.len ≤ longest_header) × (n < size_limit) × (is_integer h.kind ≡ true → n ≤ 8) }
     ensures { result ≡ read_element strict position h n input.now }
 {
@@ -32,9 +38,9 @@ fn read_element(strict: bool, position: u64, h: TagHeader, n: u64, input: &[u8])
     let kind = h.kind;
     let total = len + n as usize;
     if input.len() < total {
-        return Action::NeedMore {
+        return Ok(Action::NeedMore {
             missing: total - input.len(),
-        };
+        });
     }
     let range = Range {
         begin: position + len as u64,
@@ -48,18 +54,30 @@ fn read_element(strict: bool, position: u64, h: TagHeader, n: u64, input: &[u8])
 }
 
 // An element that is no Master, with this size in its header.
-fn element_of(strict: bool, position: u64, h: TagHeader, size: EBMLSize, input: &[u8]) -> Action
+fn element_of(
+    strict: bool,
+    position: u64,
+    h: TagHeader,
+    size: EBMLSize,
+    input: &[u8],
+) -> Result<Action, DecodeError>
     requires { (position ≤ farthest) × (h.len ≤ longest_header) × SmallSize size × FitsKind h.kind size }
     ensures { result ≡ element_of strict position h size input.now }
 {
     match size {
-        EBMLSize::Unknown => Action::Refuse(DecodeError::InvalidTagData),
+        EBMLSize::Unknown => Err(DecodeError::InvalidTagData),
         EBMLSize::Known(n) => read_element(strict, position, h, n, input),
     }
 }
 
-// Step 11 with so many masters open: a Start, or an element that is none.
-pub fn step11(strict: bool, open_count: usize, position: u64, h: TagHeader, input: &[u8]) -> Action
+/// Step 11 with so many masters open: a Start, or an element that is none.
+pub fn step11(
+    strict: bool,
+    open_count: usize,
+    position: u64,
+    h: TagHeader,
+    input: &[u8],
+) -> Result<Action, DecodeError>
     requires { (position ≤ farthest) × (h.len ≤ longest_header) × SmallSize h.size × FitsKind h.kind h.size }
     ensures { result ≡ step11 strict open_count position h input.now }
 {
@@ -67,13 +85,13 @@ pub fn step11(strict: bool, open_count: usize, position: u64, h: TagHeader, inpu
     let size = h.size;
     if is_master(kind) {
         if MOST_OPEN <= open_count {
-            return Action::Refuse(DecodeError::TooManyOpen);
+            return Err(DecodeError::TooManyOpen);
         }
-        return Action::Start {
+        return Ok(Action::Start {
             id: h.id,
             size,
             len: h.len,
-        };
+        });
     }
     element_of(strict, position, h, size, input)
 }

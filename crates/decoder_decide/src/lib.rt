@@ -1,6 +1,6 @@
-// What a call does, decided before the decoder's record moves: steps 1 to 11 of document 01. The record was looked at
-// before (decoder_look), and its open masters stand in lent words: a promise here is made of every record that looks
-// so.
+//! What a call does, decided before the decoder's record moves: steps 1 to 11. The record was looked at
+//! before (decoder_look), and its open masters stand in lent words: a promise here is made of every record that looks
+//! so.
 #![tactic(auto)]
 
 pub mod checks;

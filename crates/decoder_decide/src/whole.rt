@@ -1,4 +1,4 @@
-// The tests on a whole record, for the calls that make them seldom: each looks at it anew.
+//! The tests on a whole record, for the calls that make them seldom: each looks at it anew.
 
 ghost use Rattle.std.specs.Prelude.{◌≡◌, ◌≤◌, ◌<◌};
 ghost use Rattle.basics.specs.Lists.{every};
@@ -13,12 +13,17 @@ use crate::checks::check_10_to_12;
 use crate::closing::all_masters;
 use crate::header::valid_header;
 use decoder_look::summary::{good_ends, summarize};
-use decoder_rules::types::{Check, TagDecoder};
+use decoder_rules::types::{DecodeError, TagDecoder};
 use spec_util::types::MOST_OPEN;
 use tag_parse::types::TagHeader;
 
-// 10, 11 and 12 of a record, with n bytes lent.
-pub fn check_record_10_to_12(entries: &[u64], parts: &[u64], d: TagDecoder, n: usize) -> Check
+/// 10, 11 and 12 of a record, with n bytes lent.
+pub fn check_record_10_to_12(
+    entries: &[u64],
+    parts: &[u64],
+    d: TagDecoder,
+    n: usize,
+) -> Result<(), DecodeError>
     ensures { result ≡ check_record10to12 entries.now parts.now d n }
 {
     let mut ids = [0u64; MOST_OPEN];
@@ -28,8 +33,13 @@ pub fn check_record_10_to_12(entries: &[u64], parts: &[u64], d: TagDecoder, n: u
     check_10_to_12(entries, parts, summary.is_state_good, d.position, n)
 }
 
-// 8 and 9 for a header, of a record that has its note.
-pub fn valid_header_of(entries: &[u64], parts: &[u64], d: TagDecoder, h: TagHeader) -> Check
+/// 8 and 9 for a header, of a record that has its note.
+pub fn valid_header_of(
+    entries: &[u64],
+    parts: &[u64],
+    d: TagDecoder,
+    h: TagHeader,
+) -> Result<(), DecodeError>
     requires open_count_bound { (d.open_count ≤ most_open) × (d.position ≤ farthest) × (h.len ≤ longest_header) × (known_size h.size < size_limit) }
     requires path_value { parts_in (parts_of parts.now) h.path ≡ path_of (table_of entries.now parts.now) h.id }
     ensures { result ≡ valid_header (table_of entries.now parts.now) d h }
@@ -41,7 +51,7 @@ pub fn valid_header_of(entries: &[u64], parts: &[u64], d: TagDecoder, h: TagHead
     valid_header(entries, parts, view, &ids, &knowns, h)
 }
 
-// Whether all that are open are Masters of the table.
+/// Whether all that are open are Masters of the table.
 pub fn all_masters_of(entries: &[u64], parts: &[u64], d: TagDecoder) -> bool
     requires { d.open_count ≤ most_open }
     ensures { result ≡ every (λ m. is_master (data_type_of (table_of entries.now parts.now) m.id)) (opens d) }

@@ -1,4 +1,4 @@
-// How the record moves, and what is answered: every move, opening too.
+//! How the record moves, and what is answered: every move, opening too.
 #![tactic(auto)]
 
 pub mod answers;

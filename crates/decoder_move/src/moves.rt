@@ -1,4 +1,4 @@
-// How the record moves: each routine gives the whole record as it is after one move, its empty places too.
+//! How the record moves: each routine gives the whole record as it is after one move, its empty places too.
 
 ghost use Rattle.std.specs.Prelude.{true, cond, ◌≡◌, ◌+◌, ◌^◌, ◌≤◌, ◌<◌, ltb, length};
 ghost use Rattle.basics.specs.Lists.{every};
@@ -14,10 +14,10 @@ use table::parts::{path_length, path_part};
 use table::types::{Path, PathPart};
 use tag_parse::types::EBMLSize;
 
-// The last place of each of the record's two arrays.
+/// The last place of each of the record's two arrays.
 pub const LAST_PLACE: usize = MOST_OPEN - 1;
 
-// What an empty place of the waiting Ends holds.
+/// What an empty place of the waiting Ends holds.
 pub fn no_end() -> WaitingEnd
     ensures { result ≡ no_end }
 {
@@ -28,7 +28,7 @@ pub fn no_end() -> WaitingEnd
     }
 }
 
-// The End of a master.
+/// The End of a master.
 #[tactic(auto, unfolding(decoder_rules::specs::Record::end_for))]
 pub fn end_for(m: OpenTag) -> WaitingEnd
     ensures { result ≡ end_for m }
@@ -40,7 +40,7 @@ pub fn end_for(m: OpenTag) -> WaitingEnd
     }
 }
 
-// A fresh decoder.
+/// A fresh decoder.
 pub fn fresh() -> TagDecoder
     ensures { result ≡ fresh }
 {
@@ -66,7 +66,7 @@ pub fn fresh() -> TagDecoder
     }
 }
 
-// The record, finished.
+/// The record, finished.
 #[tactic(auto, unfolding(decoder_rules::specs::Record::with_notes))]
 pub fn with_finished(mut d: TagDecoder) -> TagDecoder
     ensures { result ≡ with_notes d d.position d.settled true }
@@ -81,11 +81,11 @@ fn implied(part: PathPart) -> OpenTag
 {
     match part {
         PathPart::Id(id) => open_tag(id, false, 0, 0, 0),
-        PathPart::Global { min: _, max: _ } => no_tag(),
+        PathPart::Global { .. } => no_tag(),
     }
 }
 
-// The open masters become those of a path.
+/// The open masters become those of a path.
 pub fn settled_to(mut d: TagDecoder, parts: &[u64], path: Path) -> TagDecoder
     requires { length (parts_in (parts_of parts.now) path) ≤ most_open }
     ensures { result ≡ settled_to d (parts_in (parts_of parts.now) path) }
@@ -95,31 +95,26 @@ pub fn settled_to(mut d: TagDecoder, parts: &[u64], path: Path) -> TagDecoder
     d.settled = true;
     d.open = [tag; MOST_OPEN];
     d.open_count = count;
-    let mut i: usize = 0;
-    while i < count {
+    for i in 0..count {
         d.open[i] = implied(path_part(parts, path, i));
-        i += 1;
     }
     d
 }
 
-// The first waiting End is gone, and the others move up.
+/// The first waiting End is gone, and the others move up.
 pub fn handed_out(mut d: TagDecoder) -> TagDecoder
     requires { 0 < d.waiting_count }
     ensures { result ≡ handed_out d }
 {
-    let mut i: usize = 0;
-    while i < LAST_PLACE {
-        let next = d.waiting[i + 1];
-        d.waiting[i] = next;
-        i += 1;
+    for i in 0..LAST_PLACE {
+        d.waiting[i] = d.waiting[i + 1];
     }
     d.waiting[LAST_PLACE] = no_end();
     d.waiting_count -= 1;
     d
 }
 
-// The masters above the first k close, from the top down: the first End is handed out by the caller, the others wait.
+/// The masters above the first k close, from the top down: the first End is handed out by the caller, the others wait.
 pub fn closed_to(mut d: TagDecoder, k: usize) -> TagDecoder
     requires { (k < d.open_count) × (d.open_count ≤ most_open) }
     ensures { result ≡ closed_to d k }
@@ -142,7 +137,7 @@ pub fn closed_to(mut d: TagDecoder, k: usize) -> TagDecoder
     d
 }
 
-// A master with one child more, where so many are open that it is one of them.
+/// A master with one child more, where so many are open that it is one of them.
 #[tactic(auto, unfolding(decoder_rules::specs::Record::with_one_more))]
 pub fn with_child(mut m: OpenTag, open_count: usize) -> OpenTag
     requires { 0 < open_count → m.count ≤ farthest }
@@ -166,22 +161,19 @@ fn size_grown(mut m: OpenTag, n: u64) -> OpenTag
     m
 }
 
-// Every open known size grows by the n bytes passed over.
+/// Every open known size grows by the n bytes passed over.
 pub fn with_sizes_grown(mut d: TagDecoder, n: u64) -> TagDecoder
     requires { (d.open_count ≤ most_open) × (n ≤ farthest) × (d.position ≤ farthest) × (every (good_open d.position) (opens d) ≡ true) }
     ensures { result ≡ with_sizes_grown d n }
 {
     let count = d.open_count;
-    let mut i: usize = 0;
-    while i < count {
-        let m = d.open[i];
-        d.open[i] = size_grown(m, n);
-        i += 1;
+    for i in 0..count {
+        d.open[i] = size_grown(d.open[i], n);
     }
     d
 }
 
-// The open master of a header at this position.
+/// The open master of a header at this position.
 pub fn master_at(id: u64, size: EBMLSize, position: u64, len: usize) -> OpenTag
     requires { (position ≤ farthest) × (len ≤ farthest) }
     ensures { result ≡ master_at id size position len }

@@ -10,7 +10,6 @@ use lib.Seq.{take-append-le, drop-append-le}
 use Rattle.decoder_rules.specs.Record.{farthest}
 use Rattle.table.specs.Table.{Entry, table_of}
 use Rattle.tag_parse.specs.Header.{read_header, header_needs_more}
-use Rattle.tag_parse.specs.declared.types.ReadHeader.{ReadHeader}
 use Rattle.tag_parse.specs.declared.types.TagHeader.{TagHeader}
 use Rattle.tag_parse.proofs.Headers.{header_local}
 use Rattle.decoder_rules.specs.OneCall.{check10to12, check_record10to12, check13, step7, noted}
@@ -19,6 +18,10 @@ use Rattle.decoder_rules.specs.declared.types.Action.{Action}
 use Rattle.decoder_rules.specs.declared.types.Decision.{Decision}
 use Rattle.decoder_rules.specs.declared.types.TagDecoder.{TagDecoder}
 use Rattle.decoder_rules.proofs.Exits.{HeaderExit, misplaced, oversized, too_large, past_end, ends_tops, too_many, starts, no_size, payload_incomplete, payload_refused, holds, payload_of, Admitted, Reading, NoneFull, AtBytes, AtHeader, Exit, refused_first, after_finish, hands_out, finished, closes_full, no_byte, header_incomplete, header_refused, id_refused, on_header, exits, exit_decides}
+use Rattle.std.specs.Prelude.{Result}
+use Rattle.decoder_rules.specs.declared.types.DecodeError.{DecodeError}
+use Rattle.tag_parse.specs.declared.types.ParseError.{ParseError}
+use Rattle.tools.specs.declared.status.Status.{Status}
 
 module _ (t : List Entry) (d : TagDecoder) (h : TagHeader) (s u : List ℕ) where
   -- a payload that is there is read alike
@@ -32,7 +35,7 @@ module _ (t : List Entry) (d : TagDecoder) (h : TagHeader) (s u : List ℕ) wher
   longer l = rw (length-append s u) (omega arith)
 
   -- 8 to 11
-  pub header_longer : {a : Action} → HeaderExit t d h s a → action_needs_more a ≡ false → HeaderExit t d h (s ++ u) a
+  pub header_longer : {a : Result Action DecodeError} → HeaderExit t d h s a → action_needs_more a ≡ false → HeaderExit t d h (s ++ u) a
   header_longer (misplaced p) m = misplaced p
   header_longer (oversized n p e f) m = oversized n p e f
   header_longer (too_large n p e f g) m = too_large n p e f g
@@ -75,7 +78,7 @@ module _ (es ps : List ℕ) (d : TagDecoder) (s u : List ℕ) (byte : get_or s 0
       }
 
   -- a header that is there is read alike
-  read_longer : {r : ReadHeader} → read_header (table_of es ps) s ≡ r → header_needs_more r ≡ false → read_header (table_of es ps) (s ++ u) ≡ r
+  read_longer : {r : Result (Status TagHeader) ParseError} → read_header (table_of es ps) s ≡ r → header_needs_more r ≡ false → read_header (table_of es ps) (s ++ u) ≡ r
   read_longer e f = header_local (table_of es ps) s u byte (rw e f) ∙ e
 
   -- and so it stands there with all bytes too

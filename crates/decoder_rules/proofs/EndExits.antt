@@ -24,6 +24,8 @@ use Rattle.decoder_rules.specs.declared.types.TagDecoder.{TagDecoder}
 use Rattle.basics.proofs.Bools.{pick, cond_yes, cond_no}
 use Rattle.decoder_rules.proofs.Exits.{all_masters}
 use Rattle.decoder_rules.proofs.MoveLaws.{with_note, decode_stays}
+use Rattle.std.specs.Prelude.{Err, Ok, Result}
+use Rattle.decoder_rules.specs.declared.types.Refusal.{Refusal}
 
 -- how many masters stand below the outermost that the end cuts: all, where it cuts none
 abbrev pub first_cut : TagDecoder → ℕ
@@ -47,8 +49,8 @@ pub data EndExit (t : List Entry) (d : TagDecoder) (s : List ℕ) : Decoded → 
   bytes_left : 0 < length s → EndExit t d s (refuse (error.UnexpectedEOF (cut_bytes d.position s)) d.position d)
   master_cut : length s ≡ 0 → first_cut d < d.open_count → EndExit t d s (refuse (error.UnexpectedEOF (cut_master (cut_tag d))) (cut_tag d).tag_start d)
   no_master_lem : NoneCut d s → all_masters t (opens d) ≡ false → EndExit t d s (refuse error.NotAMaster d.position d)
-  finishes : NoneCut d s → all_masters t (opens d) ≡ true → d.open_count ≡ 0 → EndExit t d s (gives answer.Finished 0 (ending d))
-  closes_all : NoneCut d s → all_masters t (opens d) ≡ true → 0 < d.open_count → EndExit t d s (move (ending d) (act.Close 0))
+  finishes : NoneCut d s → all_masters t (opens d) ≡ true → d.open_count ≡ 0 → EndExit t d s (gives (Ok answer.Finished) 0 (ending d))
+  closes_all : NoneCut d s → all_masters t (opens d) ≡ true → 0 < d.open_count → EndExit t d s (move (ending d) (Ok (act.Close 0)))
 
 module _ (t : List Entry) (d : TagDecoder) (s : List ℕ) where
   abbrev Ends : Decoded → Type 0
@@ -57,7 +59,7 @@ module _ (t : List Entry) (d : TagDecoder) (s : List ℕ) where
   finish_exits : NoneCut d s → all_masters t (opens d) ≡ true → Ends (finish d)
   unfolding finish
   finish_exits n m =
-      pick Ends (eqb d.open_count 0) (gives answer.Finished 0 (ending d)) (move (ending d) (act.Close 0)) (λ e. finishes n m (eqb-true _ _ e))
+      pick Ends (eqb d.open_count 0) (gives (Ok answer.Finished) 0 (ending d)) (move (ending d) (Ok (act.Close 0))) (λ e. finishes n m (eqb-true _ _ e))
       (λ e. let some : 0 < d.open_count = omega (arith, eqb-false d.open_count 0 e) in closes_all n m some)
 
   close_exits : NoneCut d s → Ends (close_all t d)
@@ -116,11 +118,11 @@ end_keeps (closes_all n m l) = record { none = refl; position = refl; settled = 
 -- ---- the whole call
 
 -- an answer after which the end of input is looked at: more is needed, or it is finished
-abbrev pub is_quiet : Answer → Bool
-is_quiet (answer.Event e) = false
-is_quiet (answer.NeedMore missing) = true
-is_quiet answer.Finished = true
-is_quiet (answer.Refused r) = false
+abbrev pub is_quiet : Result Answer Refusal → Bool
+is_quiet (Ok (answer.Event e)) = false
+is_quiet (Ok (answer.NeedMore missing)) = true
+is_quiet (Ok answer.Finished) = true
+is_quiet (Err r) = false
 
 -- every way in which `decode_eof` answers: as `decode` does, or as the end of input does on the record with the note
 pub data EofExit (es ps : List ℕ) (d : TagDecoder) (s : List ℕ) : Decoded → Type 0 where
@@ -132,8 +134,8 @@ pub eof_exits : (es ps : List ℕ) (d : TagDecoder) (s : List ℕ) → EofExit e
 unfolding decode_eof
 eof_exits es ps d s = go (decode es ps d s).answer refl
   where
-    go : (a : Answer) → (decode es ps d s).answer ≡ a → EofExit es ps d s (ended_or (table_of es ps) s (decode es ps d s) a)
-    go (answer.Event e) q = as_decoded (rw q)
-    go (answer.NeedMore missing) q = rw (decode_stays es ps d s (rw q)).same (at_end (rw q) (end_exits (table_of es ps) (with_note es ps d s) s))
-    go answer.Finished q = rw (decode_stays es ps d s (rw q)).same (at_end (rw q) (end_exits (table_of es ps) (with_note es ps d s) s))
-    go (answer.Refused r) q = as_decoded (rw q)
+    go : (a : Result Answer Refusal) → (decode es ps d s).answer ≡ a → EofExit es ps d s (ended_or (table_of es ps) s (decode es ps d s) a)
+    go (Ok (answer.Event e)) q = as_decoded (rw q)
+    go (Ok (answer.NeedMore missing)) q = rw (decode_stays es ps d s (rw q)).same (at_end (rw q) (end_exits (table_of es ps) (with_note es ps d s) s))
+    go (Ok answer.Finished) q = rw (decode_stays es ps d s (rw q)).same (at_end (rw q) (end_exits (table_of es ps) (with_note es ps d s) s))
+    go (Err r) q = as_decoded (rw q)

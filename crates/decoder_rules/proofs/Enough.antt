@@ -26,8 +26,6 @@ use Rattle.tag_parse.specs.Header.{too_long, size_of, header_of, sized_by, read_
 use Rattle.tag_parse.specs.Missing.{SizeBegun, size_length, size_with, CompletesToSize0}
 use Rattle.tag_parse.specs.declared.types.EBMLSize.TheVariants.{Known, Unknown}
 use Rattle.tag_parse.specs.declared.types.ParseError.TheVariants.{InvalidTagData}
-use Rattle.tag_parse.specs.declared.types.ReadHeader.{ReadHeader}
-use Rattle.tag_parse.specs.declared.types.ReadHeader.TheVariants as header
 use Rattle.tag_parse.specs.declared.types.TagHeader.{TagHeader}
 use Rattle.tag_parse.proofs.Cases.{id_none, header_none, not_long, long_by_kind, size_known}
 use Rattle.tag_parse.proofs.Completing.{begun_or_0, begun_header, size_least, size_greatest, greatest_over_8, greatest_below, begun_end}
@@ -38,12 +36,16 @@ use Rattle.decoder_rules.specs.OneCall.{step6, step7, step8, reaches, fits_insid
 use Rattle.decoder_rules.specs.Deciding.{action_needs_more, action_missing, decide}
 use Rattle.decoder_rules.specs.Missing.{Stuck}
 use Rattle.decoder_rules.specs.declared.types.Action.{Action}
-use Rattle.decoder_rules.specs.declared.types.Check.TheVariants.{Pass}
 use Rattle.decoder_rules.specs.declared.types.Decision.{Decision}
 use Rattle.decoder_rules.specs.declared.types.TagDecoder.{TagDecoder}
 use Rattle.decoder_rules.proofs.Exits.{HeaderExit, misplaced, oversized, too_large, past_end, ends_tops, too_many, starts, no_size, payload_incomplete, payload_refused, holds, AtElement, HasPayload, NoneFull, AtBytes, AtHeader, Exit, refused_first, after_finish, hands_out, finished, closes_full, no_byte, header_incomplete, header_refused, id_refused, on_header, exits, exit_decides}
 use Rattle.decoder_rules.proofs.AppendedDecision.{none_full_longer, at_header_longer}
 use Rattle.decoder_rules.proofs.Missing.{closing_never, decision_asks, none_missing}
+use Rattle.std.specs.Prelude.{Err, Ok, Result}
+use Rattle.decoder_rules.specs.declared.types.DecodeError.{DecodeError}
+use Rattle.tag_parse.specs.declared.types.ParseError.{ParseError}
+use Rattle.tools.specs.declared.status.Status.{Status}
+use Rattle.tools.specs.declared.status.Status.TheVariants as status
 
 -- ---- waiting for a payload
 
@@ -57,7 +59,7 @@ pub record WaitsForPayload (es ps : List ℕ) (d : TagDecoder) (s : List ℕ) : 
   pub short : length s < h.len + n
 
 module _ (es ps : List ℕ) (d : TagDecoder) (s : List ℕ) where
-  behind_header : {h : TagHeader} {a : Action} → AtHeader es ps d s h → step6 d h ≡ true
+  behind_header : {h : TagHeader} {a : Result Action DecodeError} → AtHeader es ps d s h → step6 d h ≡ true
       → HeaderExit (table_of es ps) (noted ps d (step7 (table_of es ps) d h)) h s a → action_needs_more a ≡ true → WaitsForPayload es ps d s
   behind_header at f (misplaced p) q = absurd (true≢false (sym q))
   behind_header at f (oversized n p e g) q = absurd (true≢false (sym q))
@@ -92,7 +94,7 @@ module _ (es ps : List ℕ) (d : TagDecoder) (s : List ℕ) where
   payload-waits w = rw (← exit_decides es ps d s (on_header w.h w.at w.allowed (payload_incomplete w.n w.has w.short)))
 
   -- an element without a payload is not waited for
-  pub size_0_waits_not : (h : TagHeader) → Octets s → read_header (table_of es ps) s ≡ header.Header h → h.size ≡ Known 0 → action_needs_more (decide es ps d s).action ≡ true → ⊥
+  pub size_0_waits_not : (h : TagHeader) → Octets s → read_header (table_of es ps) s ≡ Ok (status.Complete h) → h.size ≡ Known 0 → action_needs_more (decide es ps d s).action ≡ true → ⊥
   size_0_waits_not h byte e z q =
       let w = waits_behind (ap header_needs_more e) q in
       let r = w.at.read in
@@ -127,7 +129,7 @@ payload_enough es ps d s u byte open_still near w count q =
 -- ---- the size is begun: between the least size and the greatest
 
 -- what passes 9 with a size passes it with a smaller one
-smaller_passes : (d : TagDecoder) (len a b : ℕ) → a ≤ b → step9 d len (Known b) ≡ Pass → step9 d len (Known a) ≡ Pass
+smaller_passes : (d : TagDecoder) (len a b : ℕ) → a ≤ b → step9 d len (Known b) ≡ Ok tt → step9 d len (Known a) ≡ Ok tt
 unfolding step9 reaches fits_inside
 smaller_passes d len a b h e = go (d.settings.allow_oversized || every (reaches (d.position + (len + b))) (opens d)) refl
   where
@@ -152,11 +154,11 @@ smaller_passes d len a b h e = go (d.settings.allow_oversized || every (reaches 
         let k : a ≤ d.settings.max_size = omega arith in
         le-ltb _ _ k
 
-    go : (o : Bool) → (d.settings.allow_oversized || every (reaches (d.position + (len + b))) (opens d)) ≡ o → step9 d len (Known a) ≡ Pass
+    go : (o : Bool) → (d.settings.allow_oversized || every (reaches (d.position + (len + b))) (opens d)) ≡ o → step9 d len (Known a) ≡ Ok tt
     go false f = let z = rw f at e in let no : ◌≡◌ {A = ℕ} 0 1 = cc in absurd_eq no
     go true f = large (d.settings.max_given && ltb d.settings.max_size b) refl
       where
-        large : (l : Bool) → (d.settings.max_given && ltb d.settings.max_size b) ≡ l → step9 d len (Known a) ≡ Pass
+        large : (l : Bool) → (d.settings.max_given && ltb d.settings.max_size b) ≡ l → step9 d len (Known a) ≡ Ok tt
         large true g = let z = rw (f, g) at e in let no : ◌≡◌ {A = ℕ} 0 1 = cc in absurd_eq no
         large false g = rw (fits d.settings.allow_oversized refl f, small d.settings.max_given g)
 
@@ -185,7 +187,7 @@ module _ (es ps : List ℕ) (d : TagDecoder) (s : List ℕ) (b : SizeBegun s) (a
   unfolding sized_by
   asks_none v = go (too_long kind v)
     where
-      go : (l : Bool) → header_needs_more (cond l (header.Refused InvalidTagData) (header.Header (head v))) ≡ false
+      go : (l : Bool) → header_needs_more (cond l (Err InvalidTagData) (Ok (status.Complete (head v)))) ≡ false
       go true = refl
       go false = refl
 
@@ -253,7 +255,7 @@ module _ (es ps : List ℕ) (d : TagDecoder) (s : List ℕ) (b : SizeBegun s) (a
       let below = known_below (replicate (header_missing (read_header t s)) 255) hi (greatest_below t s b byte) in
       let known : size_of v (size_length b) ≡ Known v = size_known v (size_length b) (λ z. omega arith) in
       let long = shorter v c greatest hi.not_long in
-      let read : read_header t (s ++ u) ≡ header.Header (head v) = begun_header t s b u e ∙ rw long in
+      let read : read_header t (s ++ u) ≡ Ok (status.Complete (head v)) = begun_header t s b u e ∙ rw long in
       let more : length (s ++ u) ≡ length s + length u = length-append s u in
       let near' : d.position + length (s ++ u) ≤ farthest = omega arith in
       let at' : AtHeader es ps d (s ++ u) (head v) = record {
@@ -324,10 +326,10 @@ module _ (es ps : List ℕ) (d : TagDecoder) (s : List ℕ) (byte : Octets s) wh
   header_number : NoneFull es ps d s → header_needs_more (read_header (table_of es ps) s) ≡ true → header_missing (read_header (table_of es ps) s) ≡ Numbered s
   header_number n m = some_or (dec_le 1 (length s))
     where
-      by : 0 < length s → (r : ReadHeader) → read_header (table_of es ps) s ≡ r → header_missing (read_header (table_of es ps) s) ≡ Numbered s
-      by some (header.NeedMore k) e = rw (← exit_decides es ps d s (header_incomplete (record { none_full = n; some_byte = some }) e), e)
-      by some (header.Refused x) e = absurd (true≢false (sym m ∙ ap header_needs_more e))
-      by some (header.Header h) e = absurd (true≢false (sym m ∙ ap header_needs_more e))
+      by : 0 < length s → (r : Result (Status TagHeader) ParseError) → read_header (table_of es ps) s ≡ r → header_missing (read_header (table_of es ps) s) ≡ Numbered s
+      by some (Ok (status.NeedMore k)) e = rw (← exit_decides es ps d s (header_incomplete (record { none_full = n; some_byte = some }) e), e)
+      by some (Err x) e = absurd (true≢false (sym m ∙ ap header_needs_more e))
+      by some (Ok (status.Complete h)) e = absurd (true≢false (sym m ∙ ap header_needs_more e))
 
       some_or : Dec (1 ≤ length s) → header_missing (read_header (table_of es ps) s) ≡ Numbered s
       some_or (yes h) = by h (read_header (table_of es ps) s) refl

@@ -12,73 +12,74 @@ use Rattle.basics.proofs.Bools.{pick, either, cond_yes, cond_no}
 use Rattle.basics.proofs.Least.{least_below_lem, least_first, least_later, least_same}
 use Rattle.table.specs.Table.{Entry, table_of}
 use Rattle.tag_parse.specs.Header.{read_tag_id, after_id, read_header}
-use Rattle.tag_parse.specs.declared.types.ReadHeader.{ReadHeader}
-use Rattle.tag_parse.specs.declared.types.ReadHeader.TheVariants as header
 use Rattle.tag_parse.specs.declared.types.TagHeader.{TagHeader}
 use Rattle.decoder_rules.specs.Record.{at_position, with_open, with_notes, settled_to}
 use Rattle.decoder_rules.specs.OneCall.{check_record10to12, step6, step7, noted}
 use Rattle.decoder_rules.specs.Recovery.{forward, at, place_at, unless_on, end_of_search, ending_at, ending, try_recover, passed_in, is_found}
 use Rattle.decoder_rules.specs.FirstPlace.{settle_header, settle_at, or_else, settle_before, note_before, record_on, record_at, Standing, Incomplete, Valid, Other, standing, stands_at, is_header, is_valid, first_place, recovered_at, recovered_first}
-use Rattle.decoder_rules.specs.declared.types.Check.{Check}
-use Rattle.decoder_rules.specs.declared.types.Check.TheVariants.{Pass, Fail}
-use Rattle.decoder_rules.specs.declared.types.Note.{Note}
-use Rattle.decoder_rules.specs.declared.types.Note.TheVariants.{NoNote, Settle}
 use Rattle.decoder_rules.specs.declared.types.Place.TheVariants.{Stop}
 use Rattle.decoder_rules.specs.declared.types.PlaceResult.{PlaceResult}
 use Rattle.decoder_rules.specs.declared.types.Search.{Search}
 use Rattle.decoder_rules.specs.declared.types.TagDecoder.{TagDecoder}
 use Rattle.decoder_rules.proofs.MoveLaws.{noted-position}
 use Rattle.decoder_rules.proofs.Places.{place_note, unsettled_note, settled_place, place_seen, gone_on, place_of, place_leaves}
+use Rattle.std.specs.Prelude.{Err, None, Ok, Option, Result, Some, ⊤}
+use Rattle.decoder_rules.specs.declared.types.DecodeError.{DecodeError}
+use Rattle.tag_parse.specs.declared.types.ParseError.{ParseError}
+use Rattle.table.specs.declared.types.Path.{Path}
+use Rattle.decoder_rules.specs.declared.types.Refusal.{Refusal}
+use Rattle.tools.specs.declared.status.Status.{Status}
+use Rattle.tools.specs.declared.status.Status.TheVariants as status
 
 -- ---- notes in turn
 
 module _ (ps : List ℕ) where
   -- the note is the same one byte on
-  noted-forward : (d : TagDecoder) (n : Note) (p q : ℕ) → p ≡ q → at_position (noted ps d n) p ≡ at_position (noted ps (forward d) n) q
+  noted-forward : (d : TagDecoder) (n : Option Path) (p q : ℕ) → p ≡ q → at_position (noted ps d n) p ≡ at_position (noted ps (forward d) n) q
   unfolding noted settled_to with_open with_notes
-  noted-forward d NoNote p q e = ap (at_position d) e
-  noted-forward d (Settle path) p q e = ap (at_position (noted ps d (Settle path))) e
+  noted-forward d None p q e = ap (at_position d) e
+  noted-forward d (Some path) p q e = ap (at_position (noted ps d (Some path))) e
 
   -- on a record that has not settled two notes in turn are the first of them that is one
-  notes_in_turn : (d : TagDecoder) (x : Note) (y : Bool → Note) (i : ℕ) → d.settled ≡ false
+  notes_in_turn : (d : TagDecoder) (x : Option Path) (y : Bool → Option Path) (i : ℕ) → d.settled ≡ false
       → at_position (noted ps d (or_else x (y d.settings.strict))) (d.position + suc i)
       ≡ at_position
-      (noted ps (forward (noted ps d x)) (cond (forward (noted ps d x)).settled NoNote (y (forward (noted ps d x)).settings.strict)))
+      (noted ps (forward (noted ps d x)) (cond (forward (noted ps d x)).settled None (y (forward (noted ps d x)).settings.strict)))
       ((forward (noted ps d x)).position + i)
   unfolding noted settled_to with_open with_notes
-  notes_in_turn d NoNote y i u =
+  notes_in_turn d None y i u =
       noted-forward d (y d.settings.strict) _ _ (omega arith)
-      ∙ ap (λ (b : Bool). at_position (noted ps (forward d) (cond b NoNote (y d.settings.strict))) (d.position + 1 + i)) (sym u)
-  notes_in_turn d (Settle path) y i u = ap (at_position (noted ps d (Settle path))) (omega arith)
+      ∙ ap (λ (b : Bool). at_position (noted ps (forward d) (cond b None (y d.settings.strict))) (d.position + 1 + i)) (sym u)
+  notes_in_turn d (Some path) y i u = ap (at_position (noted ps d (Some path))) (omega arith)
 
   -- a settled record takes no note
-  settled_forward : (d : TagDecoder) (x : Note) (y : Bool → Note) (i : ℕ) → d.settled ≡ true
-      → at_position (noted ps d (cond d.settled NoNote x)) (d.position + suc i)
+  settled_forward : (d : TagDecoder) (x : Option Path) (y : Bool → Option Path) (i : ℕ) → d.settled ≡ true
+      → at_position (noted ps d (cond d.settled None x)) (d.position + suc i)
       ≡ at_position
-      (noted ps (forward (noted ps d NoNote)) (cond (forward (noted ps d NoNote)).settled NoNote (y (forward (noted ps d NoNote)).settings.strict)))
-      ((forward (noted ps d NoNote)).position + i)
+      (noted ps (forward (noted ps d None)) (cond (forward (noted ps d None)).settled None (y (forward (noted ps d None)).settings.strict)))
+      ((forward (noted ps d None)).position + i)
   unfolding noted with_notes
   settled_forward d x y i u =
-      ap (λ (n : Note). at_position (noted ps d n) (d.position + suc i)) (cond_yes _ _ _ u)
-      ∙ noted-forward d NoNote _ (d.position + 1 + i) (omega arith)
-      ∙ ap (λ (n : Note). at_position (noted ps (forward d) n) (d.position + 1 + i)) (sym (cond_yes d.settled NoNote (y d.settings.strict) u))
+      ap (λ (n : Option Path). at_position (noted ps d n) (d.position + suc i)) (cond_yes _ _ _ u)
+      ∙ noted-forward d None _ (d.position + 1 + i) (omega arith)
+      ∙ ap (λ (n : Option Path). at_position (noted ps (forward d) n) (d.position + 1 + i)) (sym (cond_yes d.settled None (y d.settings.strict) u))
 
   -- the note alone keeps the record's place
-  noted_here : (d : TagDecoder) (n : Note) → at_position (noted ps d n) (d.position + 0) ≡ noted ps d n
+  noted_here : (d : TagDecoder) (n : Option Path) → at_position (noted ps d n) (d.position + 0) ≡ noted ps d n
   unfolding with_notes
   noted_here d n = let e : d.position + 0 ≡ (noted ps d n).position = omega (arith, noted-position ps d n) in ap (at_position (noted ps d n)) e
 
-or_else_none : (n : Note) → or_else n NoNote ≡ n
-or_else_none NoNote = refl
-or_else_none (Settle path) = refl
+or_else_none : (n : Option Path) → or_else n None ≡ n
+or_else_none None = refl
+or_else_none (Some path) = refl
 
 -- ---- the note that places leave
 
-or_else_holds : (P : Note → Type 0) (x y : Note) → P x → P y → P (or_else x y)
-or_else_holds P NoNote y p q = q
-or_else_holds P (Settle path) y p q = p
+or_else_holds : (P : Option Path → Type 0) (x y : Option Path) → P x → P y → P (or_else x y)
+or_else_holds P None y p q = q
+or_else_holds P (Some path) y p q = p
 
-module _ (t : List Entry) (d : TagDecoder) (P : Note → Type 0) (none : P NoNote) (some : (s : List ℕ) (h : TagHeader) → read_header t s ≡ header.Header h → P (step7 t d h)) where
+module _ (t : List Entry) (d : TagDecoder) (P : Option Path → Type 0) (none : P None) (some : (s : List ℕ) (h : TagHeader) → read_header t s ≡ Ok (status.Complete h) → P (step7 t d h)) where
   -- the mode of the record
   abbrev strict : Bool
   strict = d.settings.strict
@@ -87,10 +88,10 @@ module _ (t : List Entry) (d : TagDecoder) (P : Note → Type 0) (none : P NoNot
   unfolding settle_at
   settle_holds u s = go (read_header t s) refl
     where
-      go : (r : ReadHeader) → read_header t s ≡ r → P (settle_header strict t r)
-      go (header.NeedMore missing) e = none
-      go (header.Refused x) e = none
-      go (header.Header h) e = subst P (unsettled_note t d h u) (pick P (step6 d h) (step7 t d h) NoNote (λ f. some s h e) (λ f. none))
+      go : (r : Result (Status TagHeader) ParseError) → read_header t s ≡ r → P (settle_header strict t r)
+      go (Ok (status.NeedMore missing)) e = none
+      go (Err x) e = none
+      go (Ok (status.Complete h)) e = subst P (unsettled_note t d h u) (pick P (step6 d h) (step7 t d h) None (λ f. some s h e) (λ f. none))
 
   before_holds : d.settled ≡ false → (n : ℕ) (s : List ℕ) → P (settle_before strict t n s)
   unfolding settle_before
@@ -101,10 +102,10 @@ module _ (t : List Entry) (d : TagDecoder) (P : Note → Type 0) (none : P NoNot
   -- what holds of no note, and of step 7's for each header that is read, holds of the note that places leave
   pub note_holds : (s : List ℕ) (n : ℕ) → P (note_before t d s n)
   unfolding note_before
-  note_holds s n = pick P d.settled NoNote (settle_before strict t n s) (λ e. none) (λ e. before_holds e n s)
+  note_holds s n = pick P d.settled None (settle_before strict t n s) (λ e. none) (λ e. before_holds e n s)
 
 -- on a settled record no places leave a note
-pub settled_before : (t : List Entry) (d : TagDecoder) (s : List ℕ) (n : ℕ) → d.settled ≡ true → note_before t d s n ≡ NoNote
+pub settled_before : (t : List Entry) (d : TagDecoder) (s : List ℕ) (n : ℕ) → d.settled ≡ true → note_before t d s n ≡ None
 unfolding note_before
 settled_before t d s n u = cond_yes _ _ _ u
 
@@ -120,21 +121,21 @@ module _ (ps : List ℕ) (t : List Entry) where
   record-here : (d : TagDecoder) (s : List ℕ) → record_at ps t d s 0 ≡ d
   unfolding record_on note_before settle_before noted
   record-here d s =
-      ap (λ (n : Note). at_position (noted ps d n) (d.position + 0)) (either (λ (n : Note). n ≡ NoNote) d.settled NoNote NoNote refl refl)
-      ∙ noted_here ps d NoNote
+      ap (λ (n : Option Path). at_position (noted ps d n) (d.position + 0)) (either (λ (n : Option Path). n ≡ None) d.settled None None refl refl)
+      ∙ noted_here ps d None
 
   -- the first place leaves its own note
   first_note : (d : TagDecoder) (s : List ℕ) → note_before t d s 1 ≡ place_note t d s
   unfolding note_before settle_before
   first_note d s = go d.settled refl
     where
-      go : (b : Bool) → d.settled ≡ b → cond b NoNote (or_else (settle_at d.settings.strict t s) NoNote) ≡ place_note t d s
+      go : (b : Bool) → d.settled ≡ b → cond b None (or_else (settle_at d.settings.strict t s) None) ≡ place_note t d s
       go true u = sym (settled_place t d s u)
       go false u = or_else_none (settle_at d.settings.strict t s) ∙ sym (place_seen t d s u)
 
   first_left : (d : TagDecoder) (s : List ℕ) → record_on ps t d s 1 0 ≡ noted ps d (place_note t d s)
   unfolding record_on
-  first_left d s = ap (λ (n : Note). at_position (noted ps d n) (d.position + 0)) (first_note d s) ∙ noted_here ps d (place_note t d s)
+  first_left d s = ap (λ (n : Option Path). at_position (noted ps d n) (d.position + 0)) (first_note d s) ∙ noted_here ps d (place_note t d s)
 
   -- from the second place on it is the record from the record one byte on
   record-next : (d : TagDecoder) (b : ℕ) (s : List ℕ) (n i : ℕ)
@@ -142,24 +143,24 @@ module _ (ps : List ℕ) (t : List Entry) where
   unfolding record_on note_before settle_before
   record-next d b s n i = go d.settled refl
     where
-      y : Bool → Note
+      y : Bool → Option Path
       y strict = settle_before strict t n s
 
-      here : Note
+      here : Option Path
       here = settle_at d.settings.strict t (b ∷ s)
 
-      From : Note → Type 0
+      From : Option Path → Type 0
       From x =
-          at_position (noted ps d (cond d.settled NoNote (or_else here (y d.settings.strict)))) (d.position + suc i)
+          at_position (noted ps d (cond d.settled None (or_else here (y d.settings.strict)))) (d.position + suc i)
           ≡ at_position
-          (noted ps (forward (noted ps d x)) (cond (forward (noted ps d x)).settled NoNote (y (forward (noted ps d x)).settings.strict)))
+          (noted ps (forward (noted ps d x)) (cond (forward (noted ps d x)).settled None (y (forward (noted ps d x)).settings.strict)))
           ((forward (noted ps d x)).position + i)
 
       go : (q : Bool) → d.settled ≡ q → From (place_note t d (b ∷ s))
       go true u = subst From (sym (settled_place t d (b ∷ s) u)) (settled_forward ps d (or_else here (y d.settings.strict)) y i u)
       go false u =
           subst From (sym (place_seen t d (b ∷ s) u))
-          (ap (λ (m : Note). at_position (noted ps d m) (d.position + suc i)) (cond_no _ _ _ u) ∙ notes_in_turn ps d here y i u)
+          (ap (λ (m : Option Path). at_position (noted ps d m) (d.position + suc i)) (cond_no _ _ _ u) ∙ notes_in_turn ps d here y i u)
 
   -- so the same stands there
   stands_next : (d : TagDecoder) (b : ℕ) (s : List ℕ) (i : ℕ)
@@ -247,7 +248,7 @@ ending_first start n x e q = let k : e.position - start ≡ n = omega (arith, q)
 
 -- what a recovery that answers a and takes m bytes tells of the place n bytes on where x stands: it passes over n bytes
 -- and takes them, and it finds a header exactly where x is a valid one
-pub record Tells (x : Standing) (n : ℕ) (a : Search) (m : ℕ) : Type 0 where
+pub record Tells (x : Standing) (n : ℕ) (a : Result Search Refusal) (m : ℕ) : Type 0 where
   pub passed : passed_in a ≡ n
   pub taken : m ≡ n
   pub found : is_found a ≡ is_valid x
@@ -258,7 +259,7 @@ tells Valid n e = record { passed = refl; taken = refl; found = refl }
 tells Other n e = record { passed = refl; taken = refl; found = refl }
 
 -- what a recovery that answers a and takes m bytes passes over: the bytes that it takes, at most the n bytes lent
-pub record PassesOver (n : ℕ) (a : Search) (m : ℕ) : Type 0 where
+pub record PassesOver (n : ℕ) (a : Result Search Refusal) (m : ℕ) : Type 0 where
   pub taken : passed_in a ≡ m
   pub within : passed_in a ≤ n
 
@@ -274,7 +275,7 @@ module _ (es ps : List ℕ) (d : TagDecoder) (s : List ℕ) where
   first_is_least = least_below_lem (λ i. is_header (stands_at ps (table_of es ps) d s i)) (length s)
 
   -- a recovery that is not refused gives what stands at the first place, and the record that the places up to it leave
-  pub recovery_is_first : check_record10to12 es ps d (length s) ≡ Pass → try_recover es ps d s ≡ recovered_first ps (table_of es ps) d s
+  pub recovery_is_first : check_record10to12 es ps d (length s) ≡ Ok tt → try_recover es ps d s ≡ recovered_first ps (table_of es ps) d s
   unfolding try_recover ending record_on with_notes
   recovery_is_first e =
       let i = first_place ps (table_of es ps) d s in
@@ -291,7 +292,7 @@ module _ (es ps : List ℕ) (d : TagDecoder) (s : List ℕ) where
 
   -- a recovery that is not refused tells the first place: so many bytes it passes over and takes, and it finds a header
   -- exactly where a valid one stands there
-  pub recovery_tells_first : check_record10to12 es ps d (length s) ≡ Pass
+  pub recovery_tells_first : check_record10to12 es ps d (length s) ≡ Ok tt
       → Tells (stands_at ps (table_of es ps) d s (first_place ps (table_of es ps) d s)) (first_place ps (table_of es ps) d s)
       (try_recover es ps d s).answer (try_recover es ps d s).taken
   recovery_tells_first e =
@@ -302,8 +303,8 @@ module _ (es ps : List ℕ) (d : TagDecoder) (s : List ℕ) where
   pub recovery_passes_over : PassesOver (length s) (try_recover es ps d s).answer (try_recover es ps d s).taken
   recovery_passes_over = go (check_record10to12 es ps d (length s)) refl
     where
-      go : (c : Check) → check_record10to12 es ps d (length s) ≡ c → PassesOver (length s) (try_recover es ps d s).answer (try_recover es ps d s).taken
-      go Pass e =
+      go : (c : Result ⊤ DecodeError) → check_record10to12 es ps d (length s) ≡ c → PassesOver (length s) (try_recover es ps d s).answer (try_recover es ps d s).taken
+      go (Ok _) e =
           let k = recovery_tells_first e in
           record { taken = k.passed ∙ sym k.taken; within = omega (arith, k.passed, first_is_least.within) }
-      go (Fail x) e = unfold try_recover in rw e (record { taken = refl; within = omega arith })
+      go (Err x) e = unfold try_recover in rw e (record { taken = refl; within = omega arith })

@@ -13,10 +13,10 @@ use Rattle.spec_util.specs.Walk.{most_open}
 use Rattle.spec_util.specs.declared.types.OpenTag.{OpenTag}
 use Rattle.decoder_rules.specs.Record.{farthest, size_limit, opens, waits}
 use Rattle.decoder_rules.specs.OneCall.{good_open, good_end, good_state, check10to12, check_record10to12, and_then}
-use Rattle.decoder_rules.specs.declared.types.Check.{Check}
-use Rattle.decoder_rules.specs.declared.types.Check.TheVariants.{Pass, Fail}
 use Rattle.decoder_rules.specs.declared.types.DecodeError.TheVariants.{TableShape, BadState, TooFar}
 use Rattle.decoder_rules.specs.declared.types.TagDecoder.{TagDecoder}
+use Rattle.std.specs.Prelude.{Err, Ok, Result, ⊤}
+use Rattle.decoder_rules.specs.declared.types.DecodeError.{DecodeError}
 
 -- ---- an open master at position p
 
@@ -75,9 +75,9 @@ is_good_state d g = and_both (and_both (and_both (le-leb _ _ g.open_count) (le-l
 -- ---- 10, 11 and 12
 
 -- the second of two tests is made only where the first is passed
-pub first_passed : (a b : Check) → and_then a b ≡ Pass → a ≡ Pass
-first_passed Pass b e = refl
-first_passed (Fail x) b e = e
+pub first_passed : (a b : Result ⊤ DecodeError) → and_then a b ≡ Ok tt → a ≡ Ok tt
+first_passed (Ok _) b e = refl
+first_passed (Err x) b e = e
 
 -- what the first three refusals leave of what was asked of the record
 pub record PassedFor (es ps : List ℕ) (good : Bool) (position n : ℕ) : Type 0 where
@@ -86,12 +86,12 @@ pub record PassedFor (es ps : List ℕ) (good : Bool) (position n : ℕ) : Type 
   pub near : position + n ≤ farthest
 
 -- where they are passed
-pub passed_for : (es ps : List ℕ) (good : Bool) (position n : ℕ) → check10to12 es ps good position n ≡ Pass → PassedFor es ps good position n
+pub passed_for : (es ps : List ℕ) (good : Bool) (position n : ℕ) → check10to12 es ps good position n ≡ Ok tt → PassedFor es ps good position n
 unfolding check10to12
 passed_for es ps good position n e = go (good_shape es ps) refl good refl (leb (position + n) farthest) refl e
   where
     go : (a : Bool) → good_shape es ps ≡ a → (b : Bool) → good ≡ b → (c : Bool) → leb (position + n) farthest ≡ c
-        → cond a (cond b (cond c Pass (Fail TooFar)) (Fail BadState)) (Fail TableShape) ≡ Pass → PassedFor es ps good position n
+        → ◌≡◌ {A = Result ⊤ DecodeError} (cond a (cond b (cond c (Ok tt) (Err TooFar)) (Err BadState)) (Err TableShape)) (Ok tt) → PassedFor es ps good position n
     go true p true q true r e = record { shape = p; found = q; near = leb-true _ _ r }
     go true p true q false r e = let z : ◌≡◌ {A = ℕ} 0 1 = cc in absurd_eq z
     go true p false q c r e = let z : ◌≡◌ {A = ℕ} 0 1 = cc in absurd_eq z
@@ -104,7 +104,7 @@ pub record Passed1 (es ps : List ℕ) (d : TagDecoder) (n : ℕ) : Type 0 where
   pub near : d.position + n ≤ farthest
 
 -- where they are passed
-pub passed12 : (es ps : List ℕ) (d : TagDecoder) (n : ℕ) → check_record10to12 es ps d n ≡ Pass → Passed1 es ps d n
+pub passed12 : (es ps : List ℕ) (d : TagDecoder) (n : ℕ) → check_record10to12 es ps d n ≡ Ok tt → Passed1 es ps d n
 unfolding check_record10to12 check10to12
 passed12 es ps d n e =
     let p = passed_for es ps (good_state d) d.position n e in

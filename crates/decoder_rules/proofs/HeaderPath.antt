@@ -10,11 +10,12 @@ use Rattle.table.specs.Table.{table_of, parts_of, parts_in, path_of}
 use Rattle.table.proofs.Entries.{path_of_lem}
 use Rattle.table.proofs.Shaped.{at_most_16}
 use Rattle.tag_parse.specs.Header.{read_header}
-use Rattle.tag_parse.specs.declared.types.ReadHeader.TheVariants as header
 use Rattle.tag_parse.specs.declared.types.TagHeader.{TagHeader}
 use Rattle.tag_parse.proofs.Headers.{header_spec}
+use Rattle.std.specs.Prelude.{Ok}
+use Rattle.tools.specs.declared.status.Status.TheVariants as status
 
-module _ (es ps s : List ℕ) (h : TagHeader) (read : read_header (table_of es ps) s ≡ header.Header h) where
+module _ (es ps s : List ℕ) (h : TagHeader) (read : read_header (table_of es ps) s ≡ Ok (status.Complete h)) where
   -- what stands at the range
   pub path_read : parts_in (parts_of ps) h.path ≡ path_of (table_of es ps) h.id
   path_read = path_of_lem es ps h.id (header_spec (table_of es ps) s h read).path

@@ -11,8 +11,6 @@ use lib.Dec.{ltb}
 use lib.ListN.{length, get_or, length-append}
 use Rattle.table.specs.Table.{Entry, table_of}
 use Rattle.tag_parse.specs.Header.{read_header, header_missing}
-use Rattle.tag_parse.specs.declared.types.ReadHeader.{ReadHeader}
-use Rattle.tag_parse.specs.declared.types.ReadHeader.TheVariants as header
 use Rattle.tag_parse.specs.declared.types.TagHeader.{TagHeader}
 use Rattle.tag_parse.proofs.Cases.{id_none}
 use Rattle.tag_parse.proofs.Missing.{header_asks, header_missing_lem, part_missing}
@@ -24,14 +22,19 @@ use Rattle.decoder_rules.specs.declared.types.Decision.{Decision}
 use Rattle.decoder_rules.specs.declared.types.TagDecoder.{TagDecoder}
 use Rattle.decoder_rules.proofs.Exits.{Closing, closes, no_master_lem, HeaderExit, misplaced, oversized, too_large, past_end, ends_tops, too_many, starts, no_size, payload_incomplete, payload_refused, holds, NoneFull, AtHeader, Exit, refused_first, after_finish, hands_out, finished, closes_full, no_byte, header_incomplete, header_refused, id_refused, on_header, exits, exit_decides}
 use Rattle.decoder_rules.proofs.AppendedDecision.{none_full_longer, at_header_longer}
+use Rattle.std.specs.Prelude.{Err, Ok, Result}
+use Rattle.decoder_rules.specs.declared.types.DecodeError.{DecodeError}
+use Rattle.tag_parse.specs.declared.types.ParseError.{ParseError}
+use Rattle.tools.specs.declared.status.Status.{Status}
+use Rattle.tools.specs.declared.status.Status.TheVariants as status
 
 -- ---- where something is missing
 
-closing_asks : {t : List Entry} {d : TagDecoder} {k : ℕ} {a : Action} → Closing t d k a → action_needs_more a ≡ ltb 0 (action_missing a)
+closing_asks : {t : List Entry} {d : TagDecoder} {k : ℕ} {a : Result Action DecodeError} → Closing t d k a → action_needs_more a ≡ ltb 0 (action_missing a)
 closing_asks (closes m) = refl
 closing_asks (no_master_lem m) = refl
 
-header_exit_asks : {t : List Entry} {d : TagDecoder} {h : TagHeader} {s : List ℕ} {a : Action} → HeaderExit t d h s a → action_needs_more a ≡ ltb 0 (action_missing a)
+header_exit_asks : {t : List Entry} {d : TagDecoder} {h : TagHeader} {s : List ℕ} {a : Result Action DecodeError} → HeaderExit t d h s a → action_needs_more a ≡ ltb 0 (action_missing a)
 header_exit_asks (misplaced p) = refl
 header_exit_asks (oversized n p e f) = refl
 header_exit_asks (too_large n p e f g) = refl
@@ -60,7 +63,7 @@ decision_asks es ps d s = go (exits es ps d s)
     go (id_refused h at f) = refl
     go (on_header h at f x) = header_exit_asks x
 
-pub closing_never : {t : List Entry} {d : TagDecoder} {k : ℕ} {a : Action} → Closing t d k a → action_needs_more a ≡ true → ⊥
+pub closing_never : {t : List Entry} {d : TagDecoder} {k : ℕ} {a : Result Action DecodeError} → Closing t d k a → action_needs_more a ≡ true → ⊥
 closing_never (closes m) q = true≢false (sym q)
 closing_never (no_master_lem m) q = true≢false (sym q)
 
@@ -90,10 +93,10 @@ none_missing t s z = part_missing t s (id_none s z)
 header_waits : (es ps : List ℕ) (d : TagDecoder) (s : List ℕ) → NoneFull es ps d s → header_missing (read_header (table_of es ps) s) ≤ action_missing (decide es ps d s).action
 header_waits es ps d s n = some_or (dec_le 1 (length s))
   where
-    by : 0 < length s → (r : ReadHeader) → read_header (table_of es ps) s ≡ r → header_missing (read_header (table_of es ps) s) ≤ action_missing (decide es ps d s).action
-    by some (header.NeedMore m) e = rw (← exit_decides es ps d s (header_incomplete (record { none_full = n; some_byte = some }) e), e) (omega arith)
-    by some (header.Refused x) e = rw e (omega arith)
-    by some (header.Header h) e = rw e (omega arith)
+    by : 0 < length s → (r : Result (Status TagHeader) ParseError) → read_header (table_of es ps) s ≡ r → header_missing (read_header (table_of es ps) s) ≤ action_missing (decide es ps d s).action
+    by some (Ok (status.NeedMore m)) e = rw (← exit_decides es ps d s (header_incomplete (record { none_full = n; some_byte = some }) e), e) (omega arith)
+    by some (Err x) e = rw e (omega arith)
+    by some (Ok (status.Complete h)) e = rw e (omega arith)
 
     some_or : Dec (1 ≤ length s) → header_missing (read_header (table_of es ps) s) ≤ action_missing (decide es ps d s).action
     some_or (yes h) = by h (read_header (table_of es ps) s) refl
@@ -101,7 +104,7 @@ header_waits es ps d s n = some_or (dec_le 1 (length s))
         let z : length s ≡ 0 = omega arith in
         rw (← exit_decides es ps d s (no_byte n z), none_missing (table_of es ps) s z) (omega arith)
 
-closing_waits : {t : List Entry} {d : TagDecoder} {k : ℕ} {a : Action} → Closing t d k a → action_missing a ≡ 0
+closing_waits : {t : List Entry} {d : TagDecoder} {k : ℕ} {a : Result Action DecodeError} → Closing t d k a → action_missing a ≡ 0
 closing_waits (closes m) = refl
 closing_waits (no_master_lem m) = refl
 
@@ -112,7 +115,7 @@ module _ (es ps : List ℕ) (d : TagDecoder) (s u : List ℕ) (byte : get_or s 0
       let g = header_waits es ps d (s ++ u) (none_full_longer es ps d s u byte open_still near n) in
       omega arith
 
-  payload_still : {h : TagHeader} → AtHeader es ps d s h → step6 d h ≡ true → {a : Action}
+  payload_still : {h : TagHeader} → AtHeader es ps d s h → step6 d h ≡ true → {a : Result Action DecodeError}
       → HeaderExit (table_of es ps) (noted ps d (step7 (table_of es ps) d h)) h s a → action_missing a ≤ length u + action_missing (decide es ps d (s ++ u)).action
   payload_still at f (misplaced p) = omega arith
   payload_still at f (oversized n p e g) = omega arith

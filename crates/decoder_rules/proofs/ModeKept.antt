@@ -17,12 +17,14 @@ use Rattle.decoder_rules.specs.declared.types.Action.TheVariants as act
 use Rattle.decoder_rules.specs.declared.types.Answer.{Answer}
 use Rattle.decoder_rules.specs.declared.types.Answer.TheVariants as answer
 use Rattle.decoder_rules.specs.declared.types.Decoded.{Decoded}
-use Rattle.decoder_rules.specs.declared.types.Note.{Note}
-use Rattle.decoder_rules.specs.declared.types.Note.TheVariants.{NoNote, Settle}
 use Rattle.decoder_rules.specs.declared.types.TagDecoder.{TagDecoder}
 use Rattle.decoder_rules.proofs.EndExits.{NoneCut, EndExit, bytes_left, master_cut, no_master_lem, finishes, closes_all, end_exits, end_answers, EofExit, as_decoded, at_end, eof_exits}
 use Rattle.decoder_rules.proofs.MoveEffects.{SameSettings}
 use Rattle.decoder_rules.proofs.MoveLaws.{noted_settings, move_settings}
+use Rattle.std.specs.Prelude.{Err, None, Ok, Option, Result, Some}
+use Rattle.decoder_rules.specs.declared.types.DecodeError.{DecodeError}
+use Rattle.table.specs.declared.types.Path.{Path}
+use Rattle.decoder_rules.specs.declared.types.Refusal.{Refusal}
 
 -- the same with the record in a mode
 abbrev pub in_mode : Bool → Decoded → Decoded
@@ -30,21 +32,21 @@ in_mode b r = gives r.answer r.taken (reading r.state b)
 
 module _ (d : TagDecoder) (b : Bool) where
   -- the note
-  pub noted_mode : (ps : List ℕ) (n : Note) → noted ps (reading d b) n ≡ reading (noted ps d n) b
+  pub noted_mode : (ps : List ℕ) (n : Option Path) → noted ps (reading d b) n ≡ reading (noted ps d n) b
   unfolding noted settled_to with_open with_notes with_settings
-  noted_mode ps NoNote = refl
-  noted_mode ps (Settle path) = refl
+  noted_mode ps None = refl
+  noted_mode ps (Some path) = refl
 
   -- the move
-  pub move_mode : (a : Action) → move (reading d b) a ≡ in_mode b (move d a)
+  pub move_mode : (a : Result Action DecodeError) → move (reading d b) a ≡ in_mode b (move d a)
   unfolding move with_open with_waiting with_notes with_settings counted opened closed_to handed_out ends_from
-  move_mode (act.Refuse e) = refl
-  move_mode (act.NeedMore missing) = refl
-  move_mode act.Finish = refl
-  move_mode act.HandOut = refl
-  move_mode (act.Close k) = refl
-  move_mode (act.Start x z len) = refl
-  move_mode (act.Data x v n) = refl
+  move_mode (Err e) = refl
+  move_mode (Ok (act.NeedMore missing)) = refl
+  move_mode (Ok act.Finish) = refl
+  move_mode (Ok act.HandOut) = refl
+  move_mode (Ok (act.Close k)) = refl
+  move_mode (Ok (act.Start x z len)) = refl
+  move_mode (Ok (act.Data x v n)) = refl
 
   module _ (t : List Entry) (s : List ℕ) where
     none_cut_mode : NoneCut d s → NoneCut (reading d b) s
@@ -65,11 +67,11 @@ module _ (d : TagDecoder) (b : Bool) where
 
 -- and what is answered there by what `decode` answered
 module _ (b : Bool) (t : List Entry) (s : List ℕ) where
-  pub ended_mode : (r : Decoded) (a : Answer) → ended_or t s (in_mode b r) a ≡ in_mode b (ended_or t s r a)
-  ended_mode r (answer.Event e) = refl
-  ended_mode r (answer.NeedMore missing) = end_mode r.state b t s
-  ended_mode r answer.Finished = end_mode r.state b t s
-  ended_mode r (answer.Refused e) = refl
+  pub ended_mode : (r : Decoded) (a : Result Answer Refusal) → ended_or t s (in_mode b r) a ≡ in_mode b (ended_or t s r a)
+  ended_mode r (Ok (answer.Event e)) = refl
+  ended_mode r (Ok (answer.NeedMore missing)) = end_mode r.state b t s
+  ended_mode r (Ok answer.Finished) = end_mode r.state b t s
+  ended_mode r (Err e) = refl
 
 -- ---- the settings
 

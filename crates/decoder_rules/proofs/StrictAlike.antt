@@ -25,7 +25,6 @@ use Rattle.tag_parse.specs.Payload.{before_zero, value_of}
 use Rattle.tag_parse.specs.declared.types.EBMLSize.{EBMLSize}
 use Rattle.tag_parse.specs.declared.types.EBMLSize.TheVariants.{Known, Unknown}
 use Rattle.tag_parse.specs.declared.types.Range.{Range}
-use Rattle.tag_parse.specs.declared.types.ReadHeader.TheVariants as header
 use Rattle.tag_parse.specs.declared.types.TagHeader.{TagHeader}
 use Rattle.tag_parse.proofs.Headers.{header_spec}
 use Rattle.decoder_rules.specs.Deciding.{decide}
@@ -40,7 +39,6 @@ use Rattle.decoder_rules.specs.declared.types.Action.{Action}
 use Rattle.decoder_rules.specs.declared.types.Action.TheVariants as act
 use Rattle.decoder_rules.specs.declared.types.Answer.{Answer}
 use Rattle.decoder_rules.specs.declared.types.Answer.TheVariants as answer
-use Rattle.decoder_rules.specs.declared.types.Check.TheVariants.{Pass}
 use Rattle.decoder_rules.specs.declared.types.DecodeError.{DecodeError}
 use Rattle.decoder_rules.specs.declared.types.DecodeError.TheVariants as error
 use Rattle.decoder_rules.specs.declared.types.Decision.{Decision}
@@ -51,6 +49,9 @@ use Rattle.basics.proofs.Bools.{both}
 use Rattle.decoder_rules.proofs.Exits.{Closing, closes, no_master_lem, payload_of, Valid, AtElement, HasPayload, HeaderExit, misplaced, oversized, too_large, past_end, ends_tops, too_many, starts, no_size, payload_incomplete, payload_refused, holds, Admitted, Reading, NoneFull, AtBytes, AtHeader, Exit, refused_first, after_finish, hands_out, finished, closes_full, no_byte, header_incomplete, header_refused, id_refused, on_header, exits, exit_decides}
 use Rattle.decoder_rules.proofs.ModeKept.{in_mode, noted_mode, move_mode, ended_mode, decode_settings, eof_settings}
 use Rattle.decoder_rules.proofs.MoveEffects.{SameSettings}
+use Rattle.std.specs.Prelude.{Err, Ok, Result}
+use Rattle.decoder_rules.specs.declared.types.Refusal.{Refusal}
+use Rattle.tools.specs.declared.status.Status.TheVariants as status
 
 -- ---- the conditions
 
@@ -66,7 +67,7 @@ only_ids_lem (e ∷ t) x g = let b = both (only_ids e.path) (no_globals t) g in 
 
 -- the ID of a header at the front of s has a path of IDs only
 abbrev pub IdsInFront : List Entry → List ℕ → Type 0
-IdsInFront t s = (h : TagHeader) → read_header t s ≡ header.Header h → only_ids (path_of t h.id) ≡ true
+IdsInFront t s = (h : TagHeader) → read_header t s ≡ Ok (status.Complete h) → only_ids (path_of t h.id) ≡ true
 
 -- as in a table without a Global
 ids_in_front : (t : List Entry) (s : List ℕ) → no_globals t ≡ true → IdsInFront t s
@@ -102,20 +103,20 @@ or_other true f e = refl
 or_other false f e = f e
 
 -- a refusal is decided
-abbrev pub refuses : Action → Bool
-refuses (act.Refuse e) = true
-refuses (act.NeedMore missing) = false
-refuses act.Finish = false
-refuses act.HandOut = false
-refuses (act.Close k) = false
-refuses (act.Start x z len) = false
-refuses (act.Data x v n) = false
+abbrev pub refuses : Result Action DecodeError → Bool
+refuses (Err e) = true
+refuses (Ok (act.NeedMore missing)) = false
+refuses (Ok act.Finish) = false
+refuses (Ok act.HandOut) = false
+refuses (Ok (act.Close k)) = false
+refuses (Ok (act.Start x z len)) = false
+refuses (Ok (act.Data x v n)) = false
 
 -- the same record in the ported mode
 abbrev ported : TagDecoder → TagDecoder
 ported d = reading d false
 
-closing_alike : {t : List Entry} {d : TagDecoder} {k : ℕ} {a : Action} → Closing t d k a → Closing t (ported d) k a
+closing_alike : {t : List Entry} {d : TagDecoder} {k : ℕ} {a : Result Action DecodeError} → Closing t d k a → Closing t (ported d) k a
 unfolding with_settings
 closing_alike (closes e) = closes e
 closing_alike (no_master_lem e) = no_master_lem e
@@ -125,7 +126,7 @@ module _ (t : List Entry) (d : TagDecoder) (h : TagHeader) (s : List ℕ) (typed
   path_alike true e = strictly_so_ported t h.id typed ids (opens d) e
   path_alike false e = e
 
-  step9_alike : (z : EBMLSize) → step9 d h.len z ≡ Pass → step9 (ported d) h.len z ≡ Pass
+  step9_alike : (z : EBMLSize) → step9 d h.len z ≡ Ok tt → step9 (ported d) h.len z ≡ Ok tt
   unfolding step9 fits_inside with_settings
   step9_alike Unknown e = refl
   step9_alike (Known n) e = e
@@ -155,7 +156,7 @@ module _ (t : List Entry) (d : TagDecoder) (h : TagHeader) (s : List ℕ) (typed
       value_alike d.settings.strict h.kind (take n (drop h.len s)) _ (omega (arith, length-take-le n (drop h.len s) body)) (rw has.known at text)
 
   -- 8 to 11
-  header_alike : {a : Action} → HeaderExit t d h s a → refuses a ≡ false → HeaderExit t (ported d) h s a
+  header_alike : {a : Result Action DecodeError} → HeaderExit t d h s a → refuses a ≡ false → HeaderExit t (ported d) h s a
   header_alike (misplaced p) q = absurd (true≢false q)
   header_alike (oversized n p e f) q = absurd (true≢false q)
   header_alike (too_large n p e f g) q = absurd (true≢false q)
@@ -253,22 +254,22 @@ some_number error.NotAMaster = omega arith
 some_number error.InvalidIdForm = omega arith
 some_number error.UnknownSizePastEnd = omega arith
 
-not_refused : (d : TagDecoder) (a : Action) → answer_refusal (move d a).answer ≡ 0 → refuses a ≡ false
+not_refused : (d : TagDecoder) (a : Result Action DecodeError) → answer_refusal (move d a).answer ≡ 0 → refuses a ≡ false
 unfolding move
-not_refused d (act.Refuse e) z = absurd (omega (arith, some_number e))
-not_refused d (act.NeedMore missing) z = refl
-not_refused d act.Finish z = refl
-not_refused d act.HandOut z = refl
-not_refused d (act.Close k) z = refl
-not_refused d (act.Start x size len) z = refl
-not_refused d (act.Data x v n) z = refl
+not_refused d (Err e) z = absurd (omega (arith, some_number e))
+not_refused d (Ok (act.NeedMore missing)) z = refl
+not_refused d (Ok act.Finish) z = refl
+not_refused d (Ok act.HandOut) z = refl
+not_refused d (Ok (act.Close k)) z = refl
+not_refused d (Ok (act.Start x size len)) z = refl
+not_refused d (Ok (act.Data x v n)) z = refl
 
 -- where the end of input refuses nothing, nor did the decoding before it
-eof_decoded : (t : List Entry) (s : List ℕ) (r : Decoded) (a : Answer) → r.answer ≡ a → answer_refusal (ended_or t s r a).answer ≡ 0 → answer_refusal a ≡ 0
-eof_decoded t s r (answer.Event e) q z = refl
-eof_decoded t s r (answer.NeedMore missing) q z = refl
-eof_decoded t s r answer.Finished q z = refl
-eof_decoded t s r (answer.Refused e) q z = sym (ap answer_refusal q) ∙ z
+eof_decoded : (t : List Entry) (s : List ℕ) (r : Decoded) (a : Result Answer Refusal) → r.answer ≡ a → answer_refusal (ended_or t s r a).answer ≡ 0 → answer_refusal a ≡ 0
+eof_decoded t s r (Ok (answer.Event e)) q z = refl
+eof_decoded t s r (Ok (answer.NeedMore missing)) q z = refl
+eof_decoded t s r (Ok answer.Finished) q z = refl
+eof_decoded t s r (Err e) q z = sym (ap answer_refusal q) ∙ z
 
 alike_by : {r p : Decoded} → p ≡ in_mode false r → Alike r p
 alike_by e = record { answer = ap (λ (x : Decoded). x.answer) e; taken = ap (λ (x : Decoded). x.taken) e; state = ap (λ (x : Decoded). x.state) e }

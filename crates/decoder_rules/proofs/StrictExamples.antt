@@ -10,8 +10,6 @@ use mathlib.Core.Path.{◌≡◌, refl}
 use Rattle.basics.specs.Lists.{every}
 use Rattle.table.specs.Check.{check_table}
 use Rattle.table.specs.Table.{table_of}
-use Rattle.table.specs.declared.types.Checked.{Checked}
-use Rattle.table.specs.declared.types.Checked.TheVariants.{Passed}
 use Rattle.tag_parse.specs.declared.types.TagValue.TheVariants.{UnsignedInt, Utf8, Raw}
 use Rattle.decoder_rules.specs.Moving.{decode}
 use Rattle.decoder_rules.specs.Record.{fresh}
@@ -24,6 +22,9 @@ use Rattle.decoder_rules.specs.declared.types.Search.{Search}
 use Rattle.decoder_rules.specs.declared.types.Search.TheVariants as search
 use Rattle.decoder_rules.specs.declared.types.TagDecoder.{TagDecoder}
 use Rattle.decoder_rules.proofs.Computing.{rules_compute}
+use Rattle.std.specs.Prelude.{Ok, Result, ⊤}
+use Rattle.decoder_rules.specs.declared.types.Refusal.{Refusal}
+use Rattle.table.specs.declared.types.TableError.{TableError}
 
 -- ---- the tables
 
@@ -56,7 +57,7 @@ global_parts =
     ∷ []
 
 -- both are checked
-pub checked_so : ◌≡◌ {A = List Checked} (check_table entries parts ∷ check_table global_entries global_parts ∷ []) (Passed ∷ Passed ∷ [])
+pub checked_so : ◌≡◌ {A = List (Result ⊤ TableError)} (check_table entries parts ∷ check_table global_entries global_parts ∷ []) (Ok tt ∷ Ok tt ∷ [])
 unfolding rules_compute
 checked_so = refl
 
@@ -143,8 +144,8 @@ abbrev passed_over : List ℕ
 passed_over = 0x4E ∷ 0x01 ∷ 0x80 ∷ 0xA2 ∷ 0x81 ∷ 0x78 ∷ 0xA2 ∷ 0x81 ∷ 0x78 ∷ 0xA2 ∷ 0x81 ∷ 0x78 ∷ []
 
 -- strictly the search goes on behind that Session, and as ported it ends before it
-pub recovered_so : ◌≡◌ {A = List Search}
+pub recovered_so : ◌≡◌ {A = List (Result Search Refusal)}
     ((try_recover entries parts (reading in_feed true) passed_over).answer ∷ (try_recover entries parts (reading in_feed false) passed_over).answer ∷ [])
-    (search.Found 3 ∷ search.Found 0 ∷ [])
+    (Ok (search.Found 3) ∷ Ok (search.Found 0) ∷ [])
 unfolding rules_compute left_by
 recovered_so = refl

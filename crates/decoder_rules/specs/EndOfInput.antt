@@ -1,9 +1,7 @@
 -- Document 01, "One call of the decoder, in order", "End of input": the call once the input has ended for good. Here t
 -- is the lent table as entries, d the record as the call before it left it, s the bytes that are left.
-use Rattle.std.specs.Prelude.{ℕ, ◌+◌, Bool, true, cond, ◌&&◌, List, ltb, eqb, length, get_or, drop}
+use Rattle.std.specs.Prelude.{ℕ, ◌+◌, Bool, true, cond, ◌&&◌, List, ltb, eqb, length, get_or, drop, Err, None, Ok, Option, Result, Some}
 use Rattle.tools.specs.Vint.{read_vint}
-use Rattle.tools.specs.declared.vint.ReadVint.{ReadVint}
-use Rattle.tools.specs.declared.vint.ReadVint.TheVariants as vint
 use Rattle.basics.specs.Lists.{every, first_index}
 use Rattle.table.specs.Table.{Entry, table_of, data_type_of, is_master}
 use Rattle.spec_util.specs.Walk.{no_tag}
@@ -11,8 +9,6 @@ use Rattle.spec_util.specs.declared.types.OpenTag.{OpenTag}
 use Rattle.tag_parse.specs.Header.{read_tag_id, size_of}
 use Rattle.tag_parse.specs.declared.types.EBMLSize.{EBMLSize}
 use Rattle.tag_parse.specs.declared.types.EBMLSize.TheVariants.{Known, Unknown}
-use Rattle.tag_parse.specs.declared.types.ReadTagId.{ReadTagId}
-use Rattle.tag_parse.specs.declared.types.ReadTagId.TheVariants as id
 use Rattle.decoder_rules.specs.Record.{opens, end_of, with_notes}
 use Rattle.decoder_rules.specs.Moving.{gives, refuse, move, decode}
 use Rattle.decoder_rules.specs.declared.types.Action.TheVariants as act
@@ -21,33 +17,34 @@ use Rattle.decoder_rules.specs.declared.types.Answer.TheVariants as answer
 use Rattle.decoder_rules.specs.declared.types.Cut.{Cut}
 use Rattle.decoder_rules.specs.declared.types.Decoded.{Decoded}
 use Rattle.decoder_rules.specs.declared.types.DecodeError.TheVariants as error
-use Rattle.decoder_rules.specs.declared.types.Optional.{Optional}
-use Rattle.decoder_rules.specs.declared.types.Optional.TheVariants.{Nothing, Number}
-use Rattle.decoder_rules.specs.declared.types.Part.TheVariants.{NoPart, Bytes}
 use Rattle.decoder_rules.specs.declared.types.TagDecoder.{TagDecoder}
+use Rattle.decoder_rules.specs.declared.types.Refusal.{Refusal}
+use Rattle.tools.specs.declared.status.Status.{Status}
+use Rattle.tools.specs.declared.errors.ToolError.{ToolError}
+use Rattle.tools.specs.declared.status.Status.TheVariants as status
 
 -- ---- what 23 names
 
 -- a cut element that starts at p where n bytes are left: its ID and size as far as they are there, and the bytes from
 -- len on: "for bytes left the range after a header of known size, else all of them"
-abbrev pub cut_at : ℕ → ℕ → Optional → Optional → ℕ → Cut
-cut_at p n x size len = record { start = p; id = x; size = size; part = Bytes (record { begin = p + len; end = p + n }) }
+abbrev pub cut_at : ℕ → ℕ → Option ℕ → Option ℕ → ℕ → Cut
+cut_at p n x size len = record { start = p; id = x; size = size; part = Some (record { begin = p + len; end = p + n }) }
 
 -- where the header of len bytes is complete: x is its ID
 abbrev pub cut_sized : ℕ → ℕ → ℕ → ℕ → EBMLSize → Cut
-cut_sized p n x len Unknown = cut_at p n (Number x) Nothing 0
-cut_sized p n x len (Known size) = cut_at p n (Number x) (Number size) len
+cut_sized p n x len Unknown = cut_at p n (Some x) None 0
+cut_sized p n x len (Known size) = cut_at p n (Some x) (Some size) len
 
 -- where the ID x of k bytes is complete, by what was read as the size after it
-abbrev pub cut_size : ℕ → ℕ → ℕ → ℕ → ReadVint → Cut
-cut_size p n x k (vint.NeedMore missing) = cut_at p n (Number x) Nothing 0
-cut_size p n x k (vint.Refused e) = cut_at p n (Number x) Nothing 0
-cut_size p n x k (vint.Vint v L) = cut_sized p n x (k + L) (size_of v L)
+abbrev pub cut_size : ℕ → ℕ → ℕ → ℕ → Result (Status (ℕ × ℕ)) ToolError → Cut
+cut_size p n x k (Ok (status.NeedMore missing)) = cut_at p n (Some x) None 0
+cut_size p n x k (Err e) = cut_at p n (Some x) None 0
+cut_size p n x k (Ok (status.Complete (v, L))) = cut_sized p n x (k + L) (size_of v L)
 
 -- by what was read as the ID: "ID if complete, size if known"
-abbrev pub cut_id : ℕ → List ℕ → ReadTagId → Cut
-cut_id p s (id.NeedMore missing) = cut_at p (length s) Nothing Nothing 0
-cut_id p s (id.TagId x k) = cut_size p (length s) x k (read_vint (drop k s))
+abbrev pub cut_id : ℕ → List ℕ → Status (ℕ × ℕ) → Cut
+cut_id p s (status.NeedMore missing) = cut_at p (length s) None None 0
+cut_id p s (status.Complete (x, k)) = cut_size p (length s) x k (read_vint (drop k s))
 
 -- what 23 names for the bytes s that are left at the position p
 unfoldable pub cut_bytes : ℕ → List ℕ → Cut
@@ -59,15 +56,15 @@ is_cut p m = m.known && ltb p (end_of m)
 
 -- what 23 names for an open master that is cut
 abbrev pub cut_master : OpenTag → Cut
-cut_master m = record { start = m.tag_start; id = Number m.id; size = Number m.size; part = NoPart }
+cut_master m = record { start = m.tag_start; id = Some m.id; size = Some m.size; part = None }
 
 -- ---- the call
 
 -- "all close, it is finished, and the first End, or Finished if none, is handed out"
 unfoldable pub finish : TagDecoder → Decoded
 finish d =
-    cond (eqb d.open_count 0) (gives answer.Finished 0 (with_notes d d.position d.settled true))
-    (move (with_notes d d.position d.settled true) (act.Close 0))
+    cond (eqb d.open_count 0) (gives (Ok answer.Finished) 0 (with_notes d d.position d.settled true))
+    (move (with_notes d d.position d.settled true) (Ok (act.Close 0)))
 
 -- all close, or 24 if one is no Master in the table
 unfoldable pub close_all : List Entry → TagDecoder → Decoded
@@ -87,11 +84,11 @@ end_of_input t d s =
     (cut_or t d (first_index (is_cut d.position) (opens d)))
 
 -- what the call answers where decoding answered so: the end of input "on need more or Finished", else the same
-abbrev pub ended_or : List Entry → List ℕ → Decoded → Answer → Decoded
-ended_or t s r (answer.Event e) = r
-ended_or t s r (answer.NeedMore missing) = end_of_input t r.state s
-ended_or t s r answer.Finished = end_of_input t r.state s
-ended_or t s r (answer.Refused e) = r
+abbrev pub ended_or : List Entry → List ℕ → Decoded → Result Answer Refusal → Decoded
+ended_or t s r (Ok (answer.Event e)) = r
+ended_or t s r (Ok (answer.NeedMore missing)) = end_of_input t r.state s
+ended_or t s r (Ok answer.Finished) = end_of_input t r.state s
+ended_or t s r (Err e) = r
 
 -- one call at the end of input: "first as above", with the bytes s
 unfoldable pub decode_eof : List ℕ → List ℕ → TagDecoder → List ℕ → Decoded

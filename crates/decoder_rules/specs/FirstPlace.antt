@@ -2,52 +2,52 @@
 -- incomplete header stands". It is said here by what stands at each place, and not by the search. Place i is i bytes on
 -- from where the search begins. Here t is the lent table as entries, d the record where the search begins, s the bytes
 -- from there on.
-use Rattle.std.specs.Prelude.{ℕ, zero, suc, ◌+◌, Bool, true, false, cond, ◌&&◌, List, length, drop}
+use Rattle.std.specs.Prelude.{ℕ, zero, suc, ◌+◌, Bool, true, false, cond, ◌&&◌, List, length, drop, Err, None, Ok, Option, Result, Some, ⊤}
 use Rattle.basics.specs.Least.{least_below}
 use Rattle.table.specs.Check.{only_ids}
 use Rattle.table.specs.Table.{Entry, path_of, is_typed}
 use Rattle.tag_parse.specs.Header.{read_header}
-use Rattle.tag_parse.specs.declared.types.ReadHeader.{ReadHeader}
-use Rattle.tag_parse.specs.declared.types.ReadHeader.TheVariants as header
 use Rattle.decoder_rules.specs.Record.{at_position, with_sizes_grown}
 use Rattle.decoder_rules.specs.OneCall.{good_form, step6, step7, noted, valid_header}
-use Rattle.decoder_rules.specs.declared.types.Check.{Check}
-use Rattle.decoder_rules.specs.declared.types.Check.TheVariants.{Pass, Fail}
-use Rattle.decoder_rules.specs.declared.types.Note.{Note}
-use Rattle.decoder_rules.specs.declared.types.Note.TheVariants.{NoNote, Settle}
 use Rattle.decoder_rules.specs.declared.types.Recovered.{Recovered}
 use Rattle.decoder_rules.specs.declared.types.Search.TheVariants as search
 use Rattle.decoder_rules.specs.declared.types.TagDecoder.{TagDecoder}
+use Rattle.decoder_rules.specs.declared.types.DecodeError.{DecodeError}
+use Rattle.tag_parse.specs.declared.types.ParseError.{ParseError}
+use Rattle.table.specs.declared.types.Path.{Path}
+use Rattle.tools.specs.declared.status.Status.{Status}
+use Rattle.tag_parse.specs.declared.types.TagHeader.{TagHeader}
+use Rattle.tools.specs.declared.status.Status.TheVariants as status
 
 -- ---- the record at a place
 
 -- the note of what was read as a header, strictly or as ported, where nothing has settled yet; step 7: "if not yet
 -- settled and a typed ID's path is all IDs (or empty), the stack becomes those IDs". An ID of a form that is not taken
 -- does not come so far
-abbrev pub settle_header : Bool → List Entry → ReadHeader → Note
-settle_header strict t (header.NeedMore missing) = NoNote
-settle_header strict t (header.Refused e) = NoNote
-settle_header strict t (header.Header h) =
-    cond (good_form strict h.id && (is_typed h.kind && only_ids (path_of t h.id))) (Settle h.path) NoNote
+abbrev pub settle_header : Bool → List Entry → Result (Status TagHeader) ParseError → Option Path
+settle_header strict t (Ok (status.NeedMore missing)) = None
+settle_header strict t (Err e) = None
+settle_header strict t (Ok (status.Complete h)) =
+    cond (good_form strict h.id && (is_typed h.kind && only_ids (path_of t h.id))) (Some h.path) None
 
 -- the note of the header at the front of these bytes, where nothing has settled yet
-unfoldable pub settle_at : Bool → List Entry → List ℕ → Note
+unfoldable pub settle_at : Bool → List Entry → List ℕ → Option Path
 settle_at strict t s = settle_header strict t (read_header t s)
 
 -- the first of two notes that is one
-abbrev pub or_else : Note → Note → Note
-or_else NoNote later = later
-or_else (Settle path) later = Settle path
+abbrev pub or_else : Option Path → Option Path → Option Path
+or_else None later = later
+or_else (Some path) later = Some path
 
 -- the note of the first n places: that of the first which has one
-unfoldable pub settle_before : Bool → List Entry → ℕ → List ℕ → Note
-settle_before strict t zero s = NoNote
+unfoldable pub settle_before : Bool → List Entry → ℕ → List ℕ → Option Path
+settle_before strict t zero s = None
 settle_before strict t (suc n) s = or_else (settle_at strict t s) (settle_before strict t n (drop 1 s))
 
 -- the note that the first n places leave on the record d: none where it has settled; else "A settling made at a place
 -- that then fails stays."
-unfoldable pub note_before : List Entry → TagDecoder → List ℕ → ℕ → Note
-note_before t d s n = cond d.settled NoNote (settle_before d.settings.strict t n s)
+unfoldable pub note_before : List Entry → TagDecoder → List ℕ → ℕ → Option Path
+note_before t d s n = cond d.settled None (settle_before d.settings.strict t n s)
 
 -- the record i bytes on, with the note that the first n places leave
 unfoldable pub record_on : List ℕ → List Entry → TagDecoder → List ℕ → ℕ → ℕ → TagDecoder
@@ -66,16 +66,16 @@ pub data Standing : Type 0 where
   Other : Standing
 
 -- whether a test is passed
-abbrev pub passes : Check → Bool
-passes Pass = true
-passes (Fail e) = false
+abbrev pub passes : Result ⊤ DecodeError → Bool
+passes (Ok _) = true
+passes (Err e) = false
 
 -- what was read as a header at a place with the record d: valid is a "header read and steps 6 to 9 pass"; of no byte
 -- the header is incomplete
-abbrev pub standing : List ℕ → List Entry → TagDecoder → ReadHeader → Standing
-standing ps t d (header.NeedMore missing) = Incomplete
-standing ps t d (header.Refused e) = Other
-standing ps t d (header.Header h) = cond (step6 d h && passes (valid_header t (noted ps d (step7 t d h)) h)) Valid Other
+abbrev pub standing : List ℕ → List Entry → TagDecoder → Result (Status TagHeader) ParseError → Standing
+standing ps t d (Ok (status.NeedMore missing)) = Incomplete
+standing ps t d (Err e) = Other
+standing ps t d (Ok (status.Complete h)) = cond (step6 d h && passes (valid_header t (noted ps d (step7 t d h)) h)) Valid Other
 
 -- what stands at place i
 unfoldable pub stands_at : List ℕ → List Entry → TagDecoder → List ℕ → ℕ → Standing
@@ -102,9 +102,9 @@ first_place ps t d s = least_below (λ i. is_header (stands_at ps t d s i)) (len
 -- what a recovery that is not refused gives where this stands at the place where it ends, n bytes on, and the record e
 -- is left there
 abbrev pub recovered_at : Standing → ℕ → TagDecoder → Recovered
-recovered_at Incomplete n e = record { answer = search.NotFound n; taken = n; state = e }
-recovered_at Valid n e = record { answer = search.Found n; taken = n; state = with_sizes_grown e n }
-recovered_at Other n e = record { answer = search.NotFound n; taken = n; state = e }
+recovered_at Incomplete n e = record { answer = Ok (search.NotFound n); taken = n; state = e }
+recovered_at Valid n e = record { answer = Ok (search.Found n); taken = n; state = with_sizes_grown e n }
+recovered_at Other n e = record { answer = Ok (search.NotFound n); taken = n; state = e }
 
 -- so it gives at the first place, whose own note the record has too
 abbrev pub recovered_first : List ℕ → List Entry → TagDecoder → List ℕ → Recovered

@@ -1,5 +1,5 @@
 -- Document 01, "Refusal numbers": those of the decoder's calls; 80 and 81: document 02, CR 11.
-use Rattle.std.specs.Prelude.{ℕ}
+use Rattle.std.specs.Prelude.{ℕ, Err, Ok, Result}
 use Rattle.tag_parse.specs.declared.types.ParseError.{ParseError}
 use Rattle.tag_parse.specs.declared.types.ParseError.TheVariants as parse
 use Rattle.decoder_rules.specs.declared.types.Answer.{Answer}
@@ -8,6 +8,7 @@ use Rattle.decoder_rules.specs.declared.types.DecodeError.{DecodeError}
 use Rattle.decoder_rules.specs.declared.types.DecodeError.TheVariants as error
 use Rattle.decoder_rules.specs.declared.types.Search.{Search}
 use Rattle.decoder_rules.specs.declared.types.Search.TheVariants as search
+use Rattle.decoder_rules.specs.declared.types.Refusal.{Refusal}
 
 -- the number of a refusal
 abbrev pub error_number : DecodeError → ℕ
@@ -35,14 +36,14 @@ parse_error parse.FromUtf8Error = error.FromUtf8Error
 parse_error parse.ReadF64Mismatch = error.ReadF64Mismatch
 
 -- the number of the refusal in an answer; 0 for any other answer
-abbrev pub answer_refusal : Answer → ℕ
-answer_refusal (answer.Event e) = 0
-answer_refusal (answer.NeedMore missing) = 0
-answer_refusal answer.Finished = 0
-answer_refusal (answer.Refused r) = error_number r.error
+abbrev pub answer_refusal : Result Answer Refusal → ℕ
+answer_refusal (Ok (answer.Event e)) = 0
+answer_refusal (Ok (answer.NeedMore missing)) = 0
+answer_refusal (Ok answer.Finished) = 0
+answer_refusal (Err r) = error_number r.error
 
 -- the same of what a recovery answers
-abbrev pub search_refusal : Search → ℕ
-search_refusal (search.Found passed) = 0
-search_refusal (search.NotFound passed) = 0
-search_refusal (search.Refused r) = error_number r.error
+abbrev pub search_refusal : Result Search Refusal → ℕ
+search_refusal (Ok (search.Found passed)) = 0
+search_refusal (Ok (search.NotFound passed)) = 0
+search_refusal (Err r) = error_number r.error

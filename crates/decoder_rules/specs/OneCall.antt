@@ -8,7 +8,7 @@
 --   4 `steps4_11` *                                10 `step10`, `close_or_fault`
 --   5 `read_header` (tag_parse), `step5` *          11 `step11` (`read_element`)
 --   6 `step6`, `refusal6`                          the order of all: `decide` *
-use Rattle.std.specs.Prelude.{ℕ, ◌+◌, ◌-◌, Bool, true, false, cond, not, ◌&&◌, ◌||◌, List, reverse, leb, ltb, length, take, drop}
+use Rattle.std.specs.Prelude.{ℕ, ◌+◌, ◌-◌, Bool, true, false, cond, not, ◌&&◌, ◌||◌, List, reverse, leb, ltb, length, take, drop, Err, None, Ok, Option, Result, Some, ⊤}
 use Rattle.basics.specs.Lists.{every, first_index}
 use Rattle.table.specs.Shape.{good_shape}
 use Rattle.table.specs.Check.{only_ids}
@@ -19,21 +19,18 @@ use Rattle.spec_util.specs.declared.types.OpenTag.{OpenTag}
 use Rattle.tag_parse.specs.Payload.{value_of}
 use Rattle.tag_parse.specs.declared.types.EBMLSize.{EBMLSize}
 use Rattle.tag_parse.specs.declared.types.EBMLSize.TheVariants.{Known, Unknown}
-use Rattle.tag_parse.specs.declared.types.ReadValue.{ReadValue}
-use Rattle.tag_parse.specs.declared.types.ReadValue.TheVariants as payload
 use Rattle.tag_parse.specs.declared.types.TagHeader.{TagHeader}
 use Rattle.decoder_rules.specs.Record.{farthest, size_limit, opens, waits, end_of, settled_to}
 use Rattle.decoder_rules.specs.Numbers.{parse_error}
 use Rattle.decoder_rules.specs.declared.types.Action.{Action}
 use Rattle.decoder_rules.specs.declared.types.Action.TheVariants as act
-use Rattle.decoder_rules.specs.declared.types.Check.{Check}
-use Rattle.decoder_rules.specs.declared.types.Check.TheVariants.{Pass, Fail}
 use Rattle.decoder_rules.specs.declared.types.DecodeError.{DecodeError}
 use Rattle.decoder_rules.specs.declared.types.DecodeError.TheVariants as error
-use Rattle.decoder_rules.specs.declared.types.Note.{Note}
-use Rattle.decoder_rules.specs.declared.types.Note.TheVariants.{NoNote, Settle}
 use Rattle.decoder_rules.specs.declared.types.TagDecoder.{TagDecoder}
 use Rattle.decoder_rules.specs.declared.types.WaitingEnd.{WaitingEnd}
+use Rattle.tag_parse.specs.declared.types.ParseError.{ParseError}
+use Rattle.table.specs.declared.types.Path.{Path}
+use Rattle.tag_parse.specs.declared.types.TagValue.{TagValue}
 
 -- ---- 1. "Refusals 10, 11, 12, 13 in this order."
 
@@ -54,29 +51,29 @@ good_state d =
     && (every (good_open d.position) (opens d) && every (good_end d.position) (waits d))
 
 -- 10, 11 and 12, where the state was found good or not, at this position, with n bytes lent
-unfoldable pub check10to12 : List ℕ → List ℕ → Bool → ℕ → ℕ → Check
+unfoldable pub check10to12 : List ℕ → List ℕ → Bool → ℕ → ℕ → Result ⊤ DecodeError
 check10to12 es ps good position n =
     cond (good_shape es ps)
     (cond good
-    (cond (leb (position + n) farthest) Pass (Fail error.TooFar))
-    (Fail error.BadState))
-    (Fail error.TableShape)
+    (cond (leb (position + n) farthest) (Ok tt) (Err error.TooFar))
+    (Err error.BadState))
+    (Err error.TableShape)
 
 -- 10, 11 and 12 of a record; these refuse a recovery too
-unfoldable pub check_record10to12 : List ℕ → List ℕ → TagDecoder → ℕ → Check
+unfoldable pub check_record10to12 : List ℕ → List ℕ → TagDecoder → ℕ → Result ⊤ DecodeError
 check_record10to12 es ps d n = check10to12 es ps (good_state d) d.position n
 
 -- 13, "bytes after the finish", with n bytes lent
-unfoldable pub check13 : Bool → ℕ → Check
-check13 finished n = cond (finished && ltb 0 n) (Fail error.AfterFinish) Pass
+unfoldable pub check13 : Bool → ℕ → Result ⊤ DecodeError
+check13 finished n = cond (finished && ltb 0 n) (Err error.AfterFinish) (Ok tt)
 
 -- the second test where the first is passed, else the first's refusal
-abbrev pub and_then : Check → Check → Check
-and_then Pass c = c
-and_then (Fail e) c = Fail e
+abbrev pub and_then : Result ⊤ DecodeError → Result ⊤ DecodeError → Result ⊤ DecodeError
+and_then (Ok _) c = c
+and_then (Err e) c = Err e
 
 -- the four in their order, with n bytes lent
-abbrev pub step1 : List ℕ → List ℕ → TagDecoder → ℕ → Check
+abbrev pub step1 : List ℕ → List ℕ → TagDecoder → ℕ → Result ⊤ DecodeError
 step1 es ps d n = and_then (check_record10to12 es ps d n) (check13 d.finished n)
 
 -- ---- 3. "The outermost known-size master with position ≥ its end, and all above it, close"
@@ -90,8 +87,8 @@ abbrev pub step3 : TagDecoder → ℕ
 step3 d = first_index (is_full d.position) (opens d)
 
 -- all above the first k close, "24 if one is no Master in the table"
-unfoldable pub close_or_fault : List Entry → TagDecoder → ℕ → Action
-close_or_fault t d k = cond (every (λ m. is_master (data_type_of t m.id)) (drop k (opens d))) (act.Close k) (act.Refuse error.NotAMaster)
+unfoldable pub close_or_fault : List Entry → TagDecoder → ℕ → Result Action DecodeError
+close_or_fault t d k = cond (every (λ m. is_master (data_type_of t m.id)) (drop k (opens d))) (Ok (act.Close k)) (Err error.NotAMaster)
 
 -- ---- 6. "ID without type: 15, unless allowed."; strictly, before that: "80 bad ID form before 15"
 
@@ -118,18 +115,18 @@ abbrev pub settles : List Entry → TagDecoder → TagHeader → Bool
 settles t d h = not d.settled && is_typed h.kind && only_ids (path_of t h.id)
 
 -- the note that a header leaves: the range of its ID's path, or none
-abbrev pub step7 : List Entry → TagDecoder → TagHeader → Note
-step7 t d h = cond (settles t d h) (Settle h.path) NoNote
+abbrev pub step7 : List Entry → TagDecoder → TagHeader → Option Path
+step7 t d h = cond (settles t d h) (Some h.path) None
 
 -- whether a note settles
-abbrev pub is_settle : Note → Bool
-is_settle NoNote = false
-is_settle (Settle path) = true
+abbrev pub is_settle : Option Path → Bool
+is_settle None = false
+is_settle (Some path) = true
 
 -- the record with the note
-unfoldable pub noted : List ℕ → TagDecoder → Note → TagDecoder
-noted ps d NoNote = d
-noted ps d (Settle path) = settled_to d (parts_in (parts_of ps) path)
+unfoldable pub noted : List ℕ → TagDecoder → Option Path → TagDecoder
+noted ps d None = d
+noted ps d (Some path) = settled_to d (parts_in (parts_of ps) path)
 
 -- ---- 8. "Path, for a typed ID once settled, unless allowed: 16."
 
@@ -150,16 +147,16 @@ unfoldable pub fits_inside : TagDecoder → ℕ → Bool
 fits_inside d n = d.settings.allow_oversized || every (reaches (d.position + n)) (opens d)
 
 -- 81 strictly, of a header of len bytes; 18, then 17, of a header and the size
-unfoldable pub step9 : TagDecoder → ℕ → EBMLSize → Check
-step9 d len Unknown = cond (not d.settings.strict || fits_inside d len) Pass (Fail error.UnknownSizePastEnd)
+unfoldable pub step9 : TagDecoder → ℕ → EBMLSize → Result ⊤ DecodeError
+step9 d len Unknown = cond (not d.settings.strict || fits_inside d len) (Ok tt) (Err error.UnknownSizePastEnd)
 step9 d len (Known n) =
     cond (fits_inside d (len + n))
-    (cond (d.settings.max_given && ltb d.settings.max_size n) (Fail error.InvalidTagSize) Pass)
-    (Fail error.OversizedChildElement)
+    (cond (d.settings.max_given && ltb d.settings.max_size n) (Err error.InvalidTagSize) (Ok tt))
+    (Err error.OversizedChildElement)
 
 -- 8 and 9, which recovery tests too
-unfoldable pub valid_header : List Entry → TagDecoder → TagHeader → Check
-valid_header t d h = cond (step8 t d h) (step9 d h.len h.size) (Fail error.HierarchyError)
+unfoldable pub valid_header : List Entry → TagDecoder → TagHeader → Result ⊤ DecodeError
+valid_header t d h = cond (step8 t d h) (step9 d h.len h.size) (Err error.HierarchyError)
 
 -- ---- 10. "While the top is Unknown and ended by the ID, it closes"
 
@@ -171,25 +168,25 @@ step10 t d x = d.open_count - ended_tops d.settings.strict t x (reverse (opens d
 -- 01 has 22 before 20; no element has it (document 02, CR 8)
 
 -- the Data of n bytes in all with this value, or what reading the payload refuses
-abbrev pub data_or : ℕ → ℕ → ReadValue → Action
-data_or x n (payload.Value v) = act.Data x v n
-data_or x n (payload.Refused e) = act.Refuse (parse_error e)
+abbrev pub data_or : ℕ → ℕ → Result TagValue ParseError → Result Action DecodeError
+data_or x n (Ok v) = Ok (act.Data x v n)
+data_or x n (Err e) = Err (parse_error e)
 
 -- an element with n bytes of payload after its header at the position p; CR 1: "a payload gives what it lacks"
-unfoldable pub read_element : Bool → ℕ → TagHeader → ℕ → List ℕ → Action
+unfoldable pub read_element : Bool → ℕ → TagHeader → ℕ → List ℕ → Result Action DecodeError
 read_element strict p h n s =
-    cond (ltb (length s) (h.len + n)) (act.NeedMore (h.len + n - length s))
+    cond (ltb (length s) (h.len + n)) (Ok (act.NeedMore (h.len + n - length s)))
     (data_or h.id (h.len + n)
     (value_of strict h.kind (take n (drop h.len s)) (record { begin = p + h.len; end = p + (h.len + n) })))
 
 -- an element that is no Master, with this size in its header at the position p
-unfoldable pub element_of : Bool → ℕ → TagHeader → EBMLSize → List ℕ → Action
-element_of strict p h Unknown s = act.Refuse error.InvalidTagData
+unfoldable pub element_of : Bool → ℕ → TagHeader → EBMLSize → List ℕ → Result Action DecodeError
+element_of strict p h Unknown s = Err error.InvalidTagData
 element_of strict p h (Known n) s = read_element strict p h n s
 
 -- a Start, or an element that is none, where so many masters are open and the header stands at the position p
-unfoldable pub step11 : Bool → ℕ → ℕ → TagHeader → List ℕ → Action
+unfoldable pub step11 : Bool → ℕ → ℕ → TagHeader → List ℕ → Result Action DecodeError
 step11 strict count p h s =
     cond (is_master h.kind)
-    (cond (leb most_open count) (act.Refuse error.TooManyOpen) (act.Start h.id h.size h.len))
+    (cond (leb most_open count) (Err error.TooManyOpen) (Ok (act.Start h.id h.size h.len)))
     (element_of strict p h h.size s)

@@ -1,15 +1,11 @@
 -- Document 01, "One call of the decoder, in order", "Recovery": the search for the next valid header, one place after
 -- the other. Here t is the lent table as entries, d the record at a place, s the bytes from there on.
-use Rattle.std.specs.Prelude.{ℕ, ◌+◌, ◌-◌, Bool, true, false, cond, List, [], ◌∷◌, length}
+use Rattle.std.specs.Prelude.{ℕ, ◌+◌, ◌-◌, Bool, true, false, cond, List, [], ◌∷◌, length, Err, Ok, Result, ⊤}
 use Rattle.table.specs.Table.{Entry, table_of}
 use Rattle.tag_parse.specs.Header.{read_header}
-use Rattle.tag_parse.specs.declared.types.ReadHeader.{ReadHeader}
-use Rattle.tag_parse.specs.declared.types.ReadHeader.TheVariants as header
 use Rattle.tag_parse.specs.declared.types.TagHeader.{TagHeader}
 use Rattle.decoder_rules.specs.Record.{at_position, with_sizes_grown}
 use Rattle.decoder_rules.specs.OneCall.{check_record10to12, step6, step7, noted, valid_header}
-use Rattle.decoder_rules.specs.declared.types.Check.{Check}
-use Rattle.decoder_rules.specs.declared.types.Check.TheVariants.{Pass, Fail}
 use Rattle.decoder_rules.specs.declared.types.Place.{Place}
 use Rattle.decoder_rules.specs.declared.types.Place.TheVariants.{Stop, Found, On}
 use Rattle.decoder_rules.specs.declared.types.PlaceResult.{PlaceResult}
@@ -17,6 +13,11 @@ use Rattle.decoder_rules.specs.declared.types.Recovered.{Recovered}
 use Rattle.decoder_rules.specs.declared.types.Search.{Search}
 use Rattle.decoder_rules.specs.declared.types.Search.TheVariants as search
 use Rattle.decoder_rules.specs.declared.types.TagDecoder.{TagDecoder}
+use Rattle.decoder_rules.specs.declared.types.DecodeError.{DecodeError}
+use Rattle.tag_parse.specs.declared.types.ParseError.{ParseError}
+use Rattle.decoder_rules.specs.declared.types.Refusal.{Refusal}
+use Rattle.tools.specs.declared.status.Status.{Status}
+use Rattle.tools.specs.declared.status.Status.TheVariants as status
 
 -- ---- one place
 
@@ -33,9 +34,9 @@ abbrev pub step_on : TagDecoder → PlaceResult
 step_on d = at On (forward d)
 
 -- where 8 and 9 answer so, on the record with the note: "A settling made at a place that then fails stays."
-abbrev pub judged : Check → TagDecoder → PlaceResult
-judged Pass d = at Found d
-judged (Fail e) d = step_on d
+abbrev pub judged : Result ⊤ DecodeError → TagDecoder → PlaceResult
+judged (Ok _) d = at Found d
+judged (Err e) d = step_on d
 
 -- 8 and 9 at a place, on the record with the note
 unfoldable pub judged_at : List Entry → TagDecoder → TagHeader → PlaceResult
@@ -46,10 +47,10 @@ unfoldable pub header_at : List ℕ → List Entry → TagDecoder → TagHeader 
 header_at ps t d h = cond (step6 d h) (judged_at t (noted ps d (step7 t d h)) h) (step_on d)
 
 -- by what was read as a header: "Incomplete or no byte: not found."
-abbrev pub read_at : List ℕ → List Entry → TagDecoder → ReadHeader → PlaceResult
-read_at ps t d (header.NeedMore missing) = at Stop d
-read_at ps t d (header.Refused e) = step_on d
-read_at ps t d (header.Header h) = header_at ps t d h
+abbrev pub read_at : List ℕ → List Entry → TagDecoder → Result (Status TagHeader) ParseError → PlaceResult
+read_at ps t d (Ok (status.NeedMore missing)) = at Stop d
+read_at ps t d (Err e) = step_on d
+read_at ps t d (Ok (status.Complete h)) = header_at ps t d h
 
 -- how the search stands at one place
 unfoldable pub place_at : List ℕ → List Entry → TagDecoder → List ℕ → PlaceResult
@@ -76,19 +77,19 @@ passed_over start e = e.position - start
 -- "Recovery reports the bytes passed over." They are the bytes taken. Found, "every open known size grows by the bytes
 -- passed over"
 abbrev pub ending_at : ℕ → Place → TagDecoder → Recovered
-ending_at start Stop e = record { answer = search.NotFound (passed_over start e); taken = passed_over start e; state = e }
+ending_at start Stop e = record { answer = Ok (search.NotFound (passed_over start e)); taken = passed_over start e; state = e }
 ending_at start Found e =
-    record { answer = search.Found (passed_over start e); taken = passed_over start e; state = with_sizes_grown e (passed_over start e) }
-ending_at start On e = record { answer = search.NotFound (passed_over start e); taken = passed_over start e; state = e }
+    record { answer = Ok (search.Found (passed_over start e)); taken = passed_over start e; state = with_sizes_grown e (passed_over start e) }
+ending_at start On e = record { answer = Ok (search.NotFound (passed_over start e)); taken = passed_over start e; state = e }
 
 -- what is answered at the place where the search ends
 unfoldable pub ending : ℕ → PlaceResult → Recovered
 ending start p = ending_at start p.place p.state
 
 -- the search where the first tests are passed, else their refusal
-abbrev pub search_or : List ℕ → List Entry → TagDecoder → List ℕ → Check → Recovered
-search_or ps t d s Pass = ending d.position (end_of_search ps t d s)
-search_or ps t d s (Fail e) = record { answer = search.Refused (record { error = e; place = d.position }); taken = 0; state = d }
+abbrev pub search_or : List ℕ → List Entry → TagDecoder → List ℕ → Result ⊤ DecodeError → Recovered
+search_or ps t d s (Ok _) = ending d.position (end_of_search ps t d s)
+search_or ps t d s (Err e) = record { answer = Err (record { error = e; place = d.position }); taken = 0; state = d }
 
 -- one call of a recovery with the bytes s: "Only 10, 11, 12 refuse a recovery."
 unfoldable pub try_recover : List ℕ → List ℕ → TagDecoder → List ℕ → Recovered
@@ -97,13 +98,13 @@ try_recover es ps d s = search_or ps (table_of es ps) d s (check_record10to12 es
 -- ---- what is answered
 
 -- how many bytes a recovery passed over; a refused one passes none
-abbrev pub passed_in : Search → ℕ
-passed_in (search.Found passed) = passed
-passed_in (search.NotFound passed) = passed
-passed_in (search.Refused r) = 0
+abbrev pub passed_in : Result Search Refusal → ℕ
+passed_in (Ok (search.Found passed)) = passed
+passed_in (Ok (search.NotFound passed)) = passed
+passed_in (Err r) = 0
 
 -- whether a recovery found a valid header
-abbrev pub is_found : Search → Bool
-is_found (search.Found passed) = true
-is_found (search.NotFound passed) = false
-is_found (search.Refused r) = false
+abbrev pub is_found : Result Search Refusal → Bool
+is_found (Ok (search.Found passed)) = true
+is_found (Ok (search.NotFound passed)) = false
+is_found (Err r) = false

@@ -1,6 +1,6 @@
 -- A run of calls on one stretch of bytes, as a caller makes it: a call, its answer, and the next call on what is left.
 -- A refusal is told as document 01 tells it, by its number.
-use Rattle.std.specs.Prelude.{ℕ, zero, suc, List, [], ◌∷◌, drop}
+use Rattle.std.specs.Prelude.{ℕ, zero, suc, List, [], ◌∷◌, drop, Err, Ok, Result}
 use Rattle.decoder_rules.specs.Numbers.{error_number}
 use Rattle.decoder_rules.specs.Moving.{decode}
 use Rattle.decoder_rules.specs.EndOfInput.{decode_eof}
@@ -12,6 +12,7 @@ use Rattle.decoder_rules.specs.declared.types.DecodeError.{DecodeError}
 use Rattle.decoder_rules.specs.declared.types.DecodeError.TheVariants as error
 use Rattle.decoder_rules.specs.declared.types.Event.{Event}
 use Rattle.decoder_rules.specs.declared.types.TagDecoder.{TagDecoder}
+use Rattle.decoder_rules.specs.declared.types.Refusal.{Refusal}
 
 -- ---- what an answer tells
 
@@ -47,11 +48,11 @@ named_by error.InvalidIdForm = nothing
 named_by error.UnknownSizePastEnd = nothing
 
 -- what an answer tells
-abbrev pub told_by : Answer → Told
-told_by (answer.Event e) = event e
-told_by (answer.NeedMore missing) = need_more missing
-told_by answer.Finished = finish
-told_by (answer.Refused r) = refusal (error_number r.error) r.place (named_by r.error)
+abbrev pub told_by : Result Answer Refusal → Told
+told_by (Ok (answer.Event e)) = event e
+told_by (Ok (answer.NeedMore missing)) = need_more missing
+told_by (Ok answer.Finished) = finish
+told_by (Err r) = refusal (error_number r.error) r.place (named_by r.error)
 
 -- ---- calls in a row
 
@@ -76,11 +77,11 @@ last c d s = record { calls = c ∷ []; left = d; rest = s }
 
 -- the calls from one on that left the record d and the bytes s: after an event the others follow, any other answer is
 -- the last
-abbrev pub goes_on_with : (TagDecoder → List ℕ → Calls) → Answer → Call → TagDecoder → List ℕ → Calls
-goes_on_with others (answer.Event e) c d s = before c (others d s)
-goes_on_with others (answer.NeedMore missing) c d s = last c d s
-goes_on_with others answer.Finished c d s = last c d s
-goes_on_with others (answer.Refused r) c d s = last c d s
+abbrev pub goes_on_with : (TagDecoder → List ℕ → Calls) → Result Answer Refusal → Call → TagDecoder → List ℕ → Calls
+goes_on_with others (Ok (answer.Event e)) c d s = before c (others d s)
+goes_on_with others (Ok (answer.NeedMore missing)) c d s = last c d s
+goes_on_with others (Ok answer.Finished) c d s = last c d s
+goes_on_with others (Err r) c d s = last c d s
 
 -- the calls from one on that was made with the bytes s
 abbrev pub from : (TagDecoder → List ℕ → Calls) → Decoded → List ℕ → Calls

@@ -1,8 +1,6 @@
 -- The settings of a decoder, and what it tells of itself.
-use Rattle.std.specs.Prelude.{ℕ, Bool, true, false, ◌&&◌, eqb}
+use Rattle.std.specs.Prelude.{ℕ, Bool, true, false, ◌&&◌, eqb, None, Option, Some}
 use Rattle.decoder_rules.specs.Record.{with_settings}
-use Rattle.decoder_rules.specs.declared.types.Optional.{Optional}
-use Rattle.decoder_rules.specs.declared.types.Optional.TheVariants.{Nothing, Number}
 use Rattle.decoder_rules.specs.declared.types.Settings.{Settings}
 use Rattle.decoder_rules.specs.declared.types.TagDecoder.{TagDecoder}
 
@@ -30,9 +28,9 @@ abbrev pub reading : TagDecoder → Bool → TagDecoder
 reading d strict = with_settings d (with_strict d.settings strict)
 
 -- the record with this greatest size, or none
-abbrev pub limited_to : TagDecoder → Optional → TagDecoder
-limited_to d Nothing = with_settings d (with_greatest d.settings false 0)
-limited_to d (Number n) = with_settings d (with_greatest d.settings true n)
+abbrev pub limited_to : TagDecoder → Option ℕ → TagDecoder
+limited_to d None = with_settings d (with_greatest d.settings false 0)
+limited_to d (Some n) = with_settings d (with_greatest d.settings true n)
 
 -- whether the end of input has come and every End is handed out
 abbrev pub is_finished : TagDecoder → Bool

@@ -2,7 +2,7 @@
 -- what it accepts the ported mode answers alike." What these words say of one call, and of calls in a row. It holds
 -- (proofs/StrictAlike.antt) of any table, checked or not, and of the tests only that of unknown IDs (15) has to be on.
 -- Each of the other conditions is needed, and of a recovery it does not hold (proofs/StrictExamples.antt).
-use Rattle.std.specs.Prelude.{ℕ, Bool, true, false, not, ◌||◌, List, [], ◌∷◌, ◌≡◌, eqb, take, drop}
+use Rattle.std.specs.Prelude.{ℕ, Bool, true, false, not, ◌||◌, List, [], ◌∷◌, ◌≡◌, eqb, take, drop, Err, Ok, Result}
 use Rattle.basics.specs.Lists.{every}
 use Rattle.table.specs.Check.{only_ids}
 use Rattle.table.specs.Table.{Entry}
@@ -11,8 +11,6 @@ use Rattle.table.specs.declared.types.TagDataType.TheVariants as type
 use Rattle.tag_parse.specs.Header.{read_header}
 use Rattle.tag_parse.specs.declared.types.EBMLSize.{EBMLSize}
 use Rattle.tag_parse.specs.declared.types.EBMLSize.TheVariants.{Known, Unknown}
-use Rattle.tag_parse.specs.declared.types.ReadHeader.{ReadHeader}
-use Rattle.tag_parse.specs.declared.types.ReadHeader.TheVariants as header
 use Rattle.tag_parse.specs.declared.types.TagHeader.{TagHeader}
 use Rattle.decoder_rules.specs.EndOfInput.{decode_eof}
 use Rattle.decoder_rules.specs.Moving.{decode}
@@ -21,6 +19,10 @@ use Rattle.decoder_rules.specs.Settings.{reading}
 use Rattle.decoder_rules.specs.declared.types.Answer.{Answer}
 use Rattle.decoder_rules.specs.declared.types.Decoded.{Decoded}
 use Rattle.decoder_rules.specs.declared.types.TagDecoder.{TagDecoder}
+use Rattle.tag_parse.specs.declared.types.ParseError.{ParseError}
+use Rattle.decoder_rules.specs.declared.types.Refusal.{Refusal}
+use Rattle.tools.specs.declared.status.Status.{Status}
+use Rattle.tools.specs.declared.status.Status.TheVariants as status
 
 -- ---- the conditions
 
@@ -52,10 +54,10 @@ unfoldable pub no_zero_after : TagHeader → List ℕ → Bool
 no_zero_after h s = not (is_utf8 h.kind) || no_zero (bytes_after h.len h.size s)
 
 -- the same by what was read as a header
-abbrev pub no_zero_read : ReadHeader → List ℕ → Bool
-no_zero_read (header.NeedMore missing) s = true
-no_zero_read (header.Refused e) s = true
-no_zero_read (header.Header h) s = no_zero_after h s
+abbrev pub no_zero_read : Result (Status TagHeader) ParseError → List ℕ → Bool
+no_zero_read (Ok (status.NeedMore missing)) s = true
+no_zero_read (Err e) s = true
+no_zero_read (Ok (status.Complete h)) s = no_zero_after h s
 
 -- "no zero byte in text" of the bytes lent at a call: no text at their front has one
 unfoldable pub no_zero_in_text : List Entry → List ℕ → Bool
@@ -83,7 +85,7 @@ lent_at (ending s) = s
 
 -- an answer, and how many bytes were taken with it
 pub record Answered : Type 0 where
-  pub answer : Answer
+  pub answer : Result Answer Refusal
   pub taken : ℕ
 
 module _ (es ps : List ℕ) where

@@ -1,12 +1,12 @@
-// The refusals' numbers, and a payload's refusals among them.
+//! The refusals' numbers, and a payload's refusals among them.
 
 ghost use Rattle.std.specs.Prelude.{◌≡◌};
-ghost use Rattle.decoder_rules.specs.Numbers.{error_number, parse_error};
+ghost use Rattle.decoder_rules.specs.Numbers.{error_number};
 
 use crate::types::DecodeError;
 use tag_parse::types::ParseError;
 
-// The number of a refusal.
+/// The number of a refusal.
 pub fn error_number(e: DecodeError) -> u64
     ensures { result ≡ error_number e }
 {
@@ -30,13 +30,18 @@ pub fn error_number(e: DecodeError) -> u64
     }
 }
 
-// The decoder's refusal for what reading an element refuses.
-pub fn parse_error(e: ParseError) -> DecodeError
-    ensures { result ≡ parse_error e }
-{
-    match e {
-        ParseError::InvalidTagData => DecodeError::InvalidTagData,
-        ParseError::FromUtf8Error => DecodeError::FromUtf8Error,
-        ParseError::ReadF64Mismatch => DecodeError::ReadF64Mismatch,
+/// The decoder's refusal for what reading an element refuses.
+impl From<ParseError> for DecodeError {
+    ghost use Rattle.decoder_rules.specs.Numbers.{parse_error};
+    ghost use Rattle.std.specs.Prelude.{◌≡◌};
+
+    ghost from_gives = { λ e d. d ≡ parse_error e };
+
+    fn from(e: ParseError) -> DecodeError {
+        match e {
+            ParseError::InvalidTagData => DecodeError::InvalidTagData,
+            ParseError::FromUtf8Error => DecodeError::FromUtf8Error,
+            ParseError::ReadF64Mismatch => DecodeError::ReadF64Mismatch,
+        }
     }
 }

@@ -16,8 +16,6 @@ use Rattle.many_events.specs.declared.types.Ran.{Ran}
 use Rattle.stored_decoder.specs.Words.{word_count, decoder_words, record_of}
 use Rattle.stored_decoder.specs.Check.{check_words}
 use Rattle.stored_decoder.specs.Block.{store_out, restore_from}
-use Rattle.stored_decoder.specs.declared.types.Acceptance.{Acceptance}
-use Rattle.stored_decoder.specs.declared.types.Acceptance.TheVariants.{Accepted, Refused}
 use Rattle.stored_decoder.specs.declared.types.Restored.{Restored}
 use Rattle.stored_decoder.specs.declared.types.StoreError.{StoreError}
 use Rattle.stored_decoder.specs.declared.types.StoreError.TheVariants.{BlockLength}
@@ -26,11 +24,12 @@ use Rattle.decoder_words.specs.Replies.{done, plain, ran_reply, search_reply, wo
 use Rattle.decoder_words.specs.Calls.{of_record, on_words, new_words, set_words, number_words, ran_words, decode_words, GivesThree, searched_words, recover_words, store_from_words, words_if_taken, restored_words, restore_to_words}
 use Rattle.decoder_words.specs.declared.types.Number.{Number}
 use Rattle.decoder_words.specs.declared.types.Reply.{Reply}
+use Rattle.std.specs.Prelude.{Err, Ok, Result, ⊤}
 
 -- ---- words that are checked: a is what the check answered
 
 -- of words that are a decoder's, d is the record
-module _ (w : List ℕ) {a : Acceptance} (c : a ≡ check_words w) (yes : a ≡ Accepted) where
+module _ (w : List ℕ) {a : Result ⊤ StoreError} (c : a ≡ check_words w) (yes : a ≡ (Ok tt)) where
   -- they are 320
   pub taken_length : length w ≡ word_count
   taken_length = accepted_length w (sym c ∙ yes)
@@ -69,7 +68,7 @@ module _ (w : List ℕ) {a : Acceptance} (c : a ≡ check_words w) (yes : a ≡ 
         ∙ on_accepted (λ d. searched_words (try_recover es ps d s)) (λ e. (plain (words_refused e) 0 0 0 0, w)))
 
     -- storing answers for the record
-    pub stores : (b : List ℕ) {x : Acceptance} {o : List ℕ} {r : ℕ} → Gives x o (store_out d b) → r ≡ acceptance_code x → Gives r o (store_from_words w b)
+    pub stores : (b : List ℕ) {x : Result ⊤ StoreError} {o : List ℕ} {r : ℕ} → Gives x o (store_out d b) → r ≡ acceptance_code x → Gives r o (store_from_words w b)
     unfolding store_from_words
     stores b g q =
         gives
@@ -77,7 +76,7 @@ module _ (w : List ℕ) {a : Acceptance} (c : a ≡ check_words w) (yes : a ≡ 
         ∙ on_accepted (λ d. (acceptance_code (store_out d b).0, (store_out d b).1)) (λ e. (words_refused e, b)))
 
 -- of words that are not, why
-module _ (w : List ℕ) {a : Acceptance} (c : a ≡ check_words w) {e : StoreError} (not : a ≡ Refused e) where
+module _ (w : List ℕ) {a : Result ⊤ StoreError} (c : a ≡ check_words w) {e : StoreError} (not : a ≡ Err e) where
   -- that is what is said
   pub on_refused : {A : Type 0} (say : TagDecoder → A) (refused : StoreError → A) → refused e ≡ on_words say refused w
   on_refused say refused = ap (of_record say refused w) (sym not ∙ c)
@@ -133,14 +132,14 @@ module _ (w : List ℕ) where
         ap (λ (y : Restored). restored_words y w) (p ∙ ap (λ (c : TagDecoder). restore_from c b) e)
         ∙ sym (cond_yes _ _ _ (eq-eqb (length w) word_count h))
 
-    answering : {a : Acceptance} → x.answer ≡ a → ◌≡◌ {A = ℕ × List ℕ} (acceptance_code a, words_if_taken a x.state w) (restore_to_words w b)
-    answering q = ap (λ (y : Acceptance). (acceptance_code y, words_if_taken y x.state w)) (sym q) ∙ restored
+    answering : {a : Result ⊤ StoreError} → x.answer ≡ a → ◌≡◌ {A = ℕ × List ℕ} (acceptance_code a, words_if_taken a x.state w) (restore_to_words w b)
+    answering q = ap (λ (y : Result ⊤ StoreError). (acceptance_code y, words_if_taken y x.state w)) (sym q) ∙ restored
 
     -- where it is taken, its words are written
-    pub restore_taken : x.answer ≡ Accepted → {o : List ℕ} → o ≡ decoder_words x.state → Gives done o (restore_to_words w b)
+    pub restore_taken : x.answer ≡ Ok tt → {o : List ℕ} → o ≡ decoder_words x.state → Gives done o (restore_to_words w b)
     restore_taken q z = gives (ap (λ (l : List ℕ). (done, l)) z ∙ answering q)
 
-    pub restore_refused : {y : StoreError} → x.answer ≡ Refused y → {r : ℕ} → r ≡ words_refused y → Gives r w (restore_to_words w b)
+    pub restore_refused : {y : StoreError} → x.answer ≡ Err y → {r : ℕ} → r ≡ words_refused y → Gives r w (restore_to_words w b)
     restore_refused q z = gives (ap (λ (n : ℕ). (n, w)) z ∙ answering q)
 
 -- what `GivesThree` fixes: the reply, and the two lists that are lent as a pair

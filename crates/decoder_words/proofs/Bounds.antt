@@ -1,17 +1,17 @@
 -- What is added up in a reply is small. Assumes nothing.
-use Prim.Native.Nat.{ℕ, ◌≤◌}
+use Prim.Native.Nat.{ℕ, ◌+◌, ◌≤◌}
+use mathlib.Core.Path.{◌≡◌, refl, ap₂}
 use native.Mathlib.Omega.{arith}
 use Rattle.decoder_rules.specs.Numbers as decoder
 use Rattle.decoder_rules.specs.declared.types.DecodeError.{DecodeError}
 use Rattle.decoder_rules.specs.declared.types.DecodeError.TheVariants as error
-use Rattle.decoder_rules.specs.declared.types.Optional.{Optional}
-use Rattle.decoder_rules.specs.declared.types.Optional.TheVariants.{Nothing, Number}
-use Rattle.decoder_rules.specs.declared.types.Part.{Part}
-use Rattle.decoder_rules.specs.declared.types.Part.TheVariants.{NoPart, Bytes}
 use Rattle.stored_decoder.specs.Refusals as stored
 use Rattle.stored_decoder.specs.declared.types.StoreError.{StoreError}
 use Rattle.stored_decoder.specs.declared.types.StoreError.TheVariants.{BlockLength, UnknownLayout, UnusedSet, BadState}
-use Rattle.decoder_words.specs.Replies.{there_is, there_are}
+use Rattle.decoder_words.specs.Replies.{there_is, there_are, cut_named}
+use Rattle.std.specs.Prelude.{cond, None, Option, Some}
+use Rattle.std.specs.Option.{is_some}
+use Rattle.tag_parse.specs.declared.types.Range.{Range}
 
 -- the number of a refusal of the decoder
 pub error_small : (e : DecodeError) → decoder.error_number e ≤ 81
@@ -40,11 +40,23 @@ store_error_small UnusedSet = omega arith
 store_error_small BadState = omega arith
 
 -- what tells of an ID or a size
-pub there_is_small : (o : Optional) (n : ℕ) → there_is o n ≤ n
-there_is_small Nothing n = omega arith
-there_is_small (Number m) n = omega arith
+pub there_is_small : (o : Option ℕ) (n : ℕ) → there_is o n ≤ n
+there_is_small None n = omega arith
+there_is_small (Some m) n = omega arith
 
 -- what tells of bytes
-pub there_are_small : (p : Part) (n : ℕ) → there_are p n ≤ n
-there_are_small NoPart n = omega arith
-there_are_small (Bytes r) n = omega arith
+pub there_are_small : (p : Option Range) (n : ℕ) → there_are p n ≤ n
+there_are_small None n = omega arith
+there_are_small (Some r) n = omega arith
+
+-- which of the three there are, as the code counts them
+pub named : (id size : Option ℕ) (part : Option Range) {a b c : ℕ} → a ≡ cond (is_some id) 1 0 → b ≡ cond (is_some size) 2 0 → c ≡ cond (is_some part) 4 0 → a + (b + c) ≡ cut_named id size part
+named id size part p q r = rw (p, q, r) (ap₂ (λ (x y : ℕ). x + y) (number id 1) (ap₂ (λ (x y : ℕ). x + y) (number size 2) (bytes part)))
+  where
+    number : (o : Option ℕ) (n : ℕ) → cond (is_some o) n 0 ≡ there_is o n
+    number None n = refl
+    number (Some m) n = refl
+
+    bytes : (o : Option Range) → cond (is_some o) 4 0 ≡ there_are o 4
+    bytes None = refl
+    bytes (Some x) = refl

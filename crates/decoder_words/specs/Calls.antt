@@ -1,11 +1,10 @@
 -- The decoder's calls on the words that hold its record: layout 2 of document 02, CR 14, in words of 64 bits. Each call
 -- is made on the record that the words are, and leaves the words of the record after it; words that are no decoder's
 -- are refused, and stay as they are.
-use Rattle.std.specs.Prelude.{ℕ, Bool, cond, ◌≡◌, List, eqb, length}
+use Rattle.std.specs.Prelude.{ℕ, Bool, cond, ◌≡◌, List, eqb, length, Err, Ok, Option, Result, ⊤}
 use Rattle.decoder_rules.specs.Record.{fresh}
 use Rattle.decoder_rules.specs.Recovery.{try_recover}
 use Rattle.decoder_rules.specs.Settings.{allowing, reading, limited_to, is_finished}
-use Rattle.decoder_rules.specs.declared.types.Optional.{Optional}
 use Rattle.decoder_rules.specs.declared.types.Recovered.{Recovered}
 use Rattle.decoder_rules.specs.declared.types.TagDecoder.{TagDecoder}
 use Rattle.many_events.specs.Many.{many_events}
@@ -13,8 +12,6 @@ use Rattle.many_events.specs.declared.types.Ran.{Ran}
 use Rattle.stored_decoder.specs.Words.{word_count, decoder_words, record_of, yes_no}
 use Rattle.stored_decoder.specs.Check.{check_words}
 use Rattle.stored_decoder.specs.Block.{store_out, restore_from}
-use Rattle.stored_decoder.specs.declared.types.Acceptance.{Acceptance}
-use Rattle.stored_decoder.specs.declared.types.Acceptance.TheVariants.{Accepted, Refused}
 use Rattle.stored_decoder.specs.declared.types.Restored.{Restored}
 use Rattle.stored_decoder.specs.declared.types.StoreError.{StoreError}
 use Rattle.stored_decoder.specs.declared.types.StoreError.TheVariants.{BlockLength}
@@ -25,9 +22,9 @@ use Rattle.decoder_words.specs.declared.types.Reply.{Reply}
 -- ---- words that are a decoder's, or not
 
 -- what is said of the record that the words are; of words that are no decoder's, why
-abbrev pub of_record : {A : Type 0} → (TagDecoder → A) → (StoreError → A) → List ℕ → Acceptance → A
-of_record told refused w Accepted = told (record_of w)
-of_record told refused w (Refused e) = refused e
+abbrev pub of_record : {A : Type 0} → (TagDecoder → A) → (StoreError → A) → List ℕ → Result ⊤ StoreError → A
+of_record told refused w (Ok _) = told (record_of w)
+of_record told refused w (Err e) = refused e
 
 -- the same where the words are checked
 abbrev pub on_words : {A : Type 0} → (TagDecoder → A) → (StoreError → A) → List ℕ → A
@@ -52,7 +49,7 @@ abbrev pub strict_words : List ℕ → Bool → ℕ × List ℕ
 strict_words w strict = set_words (λ d. reading d strict) w
 
 -- this greatest size, or none
-abbrev pub limit_words : List ℕ → Optional → ℕ × List ℕ
+abbrev pub limit_words : List ℕ → Option ℕ → ℕ × List ℕ
 limit_words w n = set_words (λ d. limited_to d n) w
 
 -- ---- what a decoder tells of itself
@@ -100,9 +97,9 @@ unfoldable pub store_from_words : List ℕ → List ℕ → ℕ × List ℕ
 store_from_words w b = on_words (λ d. (acceptance_code (store_out d b).0, (store_out d b).1)) (λ e. (words_refused e, b)) w
 
 -- the words of a record where its block is taken; else the words stay
-abbrev pub words_if_taken : Acceptance → TagDecoder → List ℕ → List ℕ
-words_if_taken Accepted d w = decoder_words d
-words_if_taken (Refused e) d w = w
+abbrev pub words_if_taken : Result ⊤ StoreError → TagDecoder → List ℕ → List ℕ
+words_if_taken (Ok _) d w = decoder_words d
+words_if_taken (Err e) d w = w
 
 -- what is answered of a block, and the words after it
 abbrev pub restored_words : Restored → List ℕ → ℕ × List ℕ

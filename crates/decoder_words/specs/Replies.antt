@@ -1,11 +1,7 @@
 -- The answers of the calls on a decoder's words, in numbers.
-use Rattle.std.specs.Prelude.{ℕ, ◌+◌}
+use Rattle.std.specs.Prelude.{ℕ, ◌+◌, Err, None, Ok, Option, Result, Some, ⊤}
 use Rattle.decoder_rules.specs.Numbers.{error_number}
 use Rattle.decoder_rules.specs.declared.types.Cut.{Cut}
-use Rattle.decoder_rules.specs.declared.types.Optional.{Optional}
-use Rattle.decoder_rules.specs.declared.types.Optional.TheVariants.{Nothing, Number}
-use Rattle.decoder_rules.specs.declared.types.Part.{Part}
-use Rattle.decoder_rules.specs.declared.types.Part.TheVariants.{NoPart, Bytes}
 use Rattle.decoder_rules.specs.declared.types.Refusal.{Refusal}
 use Rattle.decoder_rules.specs.declared.types.Search.{Search}
 use Rattle.decoder_rules.specs.declared.types.Search.TheVariants as search
@@ -14,11 +10,10 @@ use Rattle.many_events.specs.declared.types.Ran.{Ran}
 use Rattle.many_events.specs.declared.types.Stop.{Stop}
 use Rattle.many_events.specs.declared.types.Stop.TheVariants as stop
 use Rattle.stored_decoder.specs.Refusals as stored
-use Rattle.stored_decoder.specs.declared.types.Acceptance.{Acceptance}
-use Rattle.stored_decoder.specs.declared.types.Acceptance.TheVariants.{Accepted, Refused}
 use Rattle.stored_decoder.specs.declared.types.StoreError.{StoreError}
 use Rattle.decoder_words.specs.declared.types.Number as reply
 use Rattle.decoder_words.specs.declared.types.Reply.{Reply}
+use Rattle.tag_parse.specs.declared.types.Range.{Range}
 
 -- ---- codes
 
@@ -49,32 +44,32 @@ needs_more = 512
 -- ---- what refusal 23 names
 
 -- n where there is a number, else 0
-abbrev pub there_is : Optional → ℕ → ℕ
-there_is Nothing n = 0
-there_is (Number m) n = n
+abbrev pub there_is : Option ℕ → ℕ → ℕ
+there_is None n = 0
+there_is (Some m) n = n
 
 -- the number, 0 where there is none
-abbrev pub number_of : Optional → ℕ
-number_of Nothing = 0
-number_of (Number m) = m
+abbrev pub number_of : Option ℕ → ℕ
+number_of None = 0
+number_of (Some m) = m
 
 -- n where there are bytes, else 0
-abbrev pub there_are : Part → ℕ → ℕ
-there_are NoPart n = 0
-there_are (Bytes r) n = n
+abbrev pub there_are : Option Range → ℕ → ℕ
+there_are None n = 0
+there_are (Some r) n = n
 
 -- where the bytes begin, 0 where there are none
-abbrev pub begin_of : Part → ℕ
-begin_of NoPart = 0
-begin_of (Bytes r) = r.begin
+abbrev pub begin_of : Option Range → ℕ
+begin_of None = 0
+begin_of (Some r) = r.begin
 
 -- where they end
-abbrev pub end_of : Part → ℕ
-end_of NoPart = 0
-end_of (Bytes r) = r.end
+abbrev pub end_of : Option Range → ℕ
+end_of None = 0
+end_of (Some r) = r.end
 
 -- which of them there are: 1 for the ID, 2 for the size, 4 for the bytes
-abbrev pub cut_named : Optional → Optional → Part → ℕ
+abbrev pub cut_named : Option ℕ → Option ℕ → Option Range → ℕ
 cut_named id size part = there_is id 1 + (there_is size 2 + there_are part 4)
 
 -- ---- replies
@@ -121,21 +116,21 @@ abbrev pub refusal_reply : Refusal → ℕ → ℕ → Reply
 refusal_reply r events taken = naming (refused_by (error_number r.error)) events taken r.place (named_by r.error)
 
 -- the reply to calls in a row, by why they stop
-abbrev pub stop_reply : ℕ → ℕ → Stop → Reply
-stop_reply events taken stop.Full = plain done events taken 0 0
-stop_reply events taken (stop.NeedMore missing) = plain needs_more events taken 0 missing
-stop_reply events taken stop.Finished = plain finished events taken 0 0
-stop_reply events taken (stop.Refused r) = refusal_reply r events taken
+abbrev pub stop_reply : ℕ → ℕ → Result Stop Refusal → Reply
+stop_reply events taken (Ok stop.Full) = plain done events taken 0 0
+stop_reply events taken (Ok (stop.NeedMore missing)) = plain needs_more events taken 0 missing
+stop_reply events taken (Ok stop.Finished) = plain finished events taken 0 0
+stop_reply events taken (Err r) = refusal_reply r events taken
 
 -- and by all that they answer
 abbrev pub ran_reply : Ran → Reply
 ran_reply r = stop_reply r.count r.taken r.stop
 
 -- the reply to a recovery that took so many bytes: those that it passed over
-abbrev pub search_reply : Search → ℕ → Reply
-search_reply (search.Found n) taken = plain found 0 taken 0 0
-search_reply (search.NotFound n) taken = plain not_found 0 taken 0 0
-search_reply (search.Refused r) taken = refusal_reply r 0 taken
+abbrev pub search_reply : Result Search Refusal → ℕ → Reply
+search_reply (Ok (search.Found n)) taken = plain found 0 taken 0 0
+search_reply (Ok (search.NotFound n)) taken = plain not_found 0 taken 0 0
+search_reply (Err r) taken = refusal_reply r 0 taken
 
 -- ---- words and blocks that are no decoder's
 
@@ -144,9 +139,9 @@ abbrev pub words_refused : StoreError → ℕ
 words_refused e = refused_by (stored.error_number e)
 
 -- the code of what storing or restoring answers
-abbrev pub acceptance_code : Acceptance → ℕ
-acceptance_code Accepted = done
-acceptance_code (Refused e) = words_refused e
+abbrev pub acceptance_code : Result ⊤ StoreError → ℕ
+acceptance_code (Ok _) = done
+acceptance_code (Err e) = words_refused e
 
 -- a number that is told
 abbrev pub told : ℕ → reply.Number

@@ -1,15 +1,17 @@
-// The answers of the decoder as replies in numbers.
+//! The answers of the decoder as replies in numbers.
 
-ghost use Rattle.std.specs.Prelude.{◌≡◌};
-ghost use Rattle.decoder_words.specs.Replies.{there_is, number_of, there_are, begin_of, end_of, plain, cut_named, cut_reply, refusal_reply, stop_reply, ran_reply, search_reply, acceptance_code, words_refused};
+ghost use Rattle.std.specs.Prelude.{cond, ◌≡◌};
+ghost use Rattle.std.specs.Option.{is_some};
+ghost use Rattle.decoder_words.specs.Replies.{number_of, begin_of, end_of, plain, cut_named, cut_reply, refusal_reply, stop_reply, ran_reply, search_reply, acceptance_code, words_refused};
 
 use crate::types::Reply;
 use decoder_rules::errors::error_number;
-use decoder_rules::types::{Cut, DecodeError, Optional, Part, Refusal, Search};
+use decoder_rules::types::{Cut, DecodeError, Refusal, Search};
 use many_events::types::{Ran, Stop};
-use stored_decoder::types::{Acceptance, StoreError};
+use stored_decoder::types::StoreError;
+use tag_parse::types::Range;
 
-// The code where the call was made.
+/// The code where the call was made.
 pub const DONE: u64 = 0;
 
 // The code where the input has ended and every event of it is handed out.
@@ -29,85 +31,64 @@ const NEEDS_MORE: u64 = 512;
 
 // ---- codes
 
-// The code of a refusal of words, or of a block.
+/// The code of a refusal of words, or of a block.
 pub fn words_refused(e: StoreError) -> u64
     ensures { result ≡ words_refused e }
 {
     REFUSED + stored_decoder::errors::error_number(e)
 }
 
-// The code of what storing or restoring answers.
-pub fn acceptance_code(a: Acceptance) -> u64
+/// The code of what storing or restoring answers.
+pub fn acceptance_code(a: Result<(), StoreError>) -> u64
     ensures { result ≡ acceptance_code a }
 {
     match a {
-        Acceptance::Accepted => DONE,
-        Acceptance::Refused(e) => words_refused(e),
+        Ok(()) => DONE,
+        Err(e) => words_refused(e),
     }
 }
 
 // ---- what refusal 23 names
 
-// So much where there is a number, else 0.
-fn there_is(o: Optional, n: u64) -> u64
-    ensures { result ≡ there_is o n }
+// So much where there is something, else 0.
+fn if_some<T: Copy>(o: Option<T>, n: u64) -> u64
+    ensures { result ≡ cond (is_some o) n 0 }
 {
-    match o {
-        Optional::Nothing => 0,
-        Optional::Number(_) => n,
-    }
+    if o.is_some() { n } else { 0 }
 }
 
 // The number, where there is one, else 0.
-fn number_of(o: Optional) -> u64
+fn number_of(o: Option<u64>) -> u64
     ensures { result ≡ number_of o }
 {
-    match o {
-        Optional::Nothing => 0,
-        Optional::Number(m) => m,
-    }
-}
-
-// So much where there are bytes, else 0.
-fn there_are(p: Part, n: u64) -> u64
-    ensures { result ≡ there_are p n }
-{
-    match p {
-        Part::NoPart => 0,
-        Part::Bytes(_) => n,
-    }
+    o.unwrap_or(0)
 }
 
 // Where the bytes begin, where there are any, else 0.
-fn begin_of(p: Part) -> u64
+fn begin_of(p: Option<Range>) -> u64
     ensures { result ≡ begin_of p }
 {
-    match p {
-        Part::NoPart => 0,
-        Part::Bytes(range) => range.begin,
-    }
+    p.map_or(0, |range| range.begin)
 }
 
 // Where they end.
-fn end_of(p: Part) -> u64
+fn end_of(p: Option<Range>) -> u64
     ensures { result ≡ end_of p }
 {
-    match p {
-        Part::NoPart => 0,
-        Part::Bytes(range) => range.end,
-    }
+    p.map_or(0, |range| range.end)
 }
 
 // Which of ID, size and bytes there are.
-fn cut_named(id: Optional, size: Optional, part: Part) -> u64
+#[tactic(auto, using(crate::proofs::Bounds::named))]
+fn cut_named(id: Option<u64>, size: Option<u64>, part: Option<Range>) -> u64
     ensures { result ≡ cut_named id size part }
 {
-    there_is(id, 1) + (there_is(size, 2) + there_are(part, 4))
+    if_some(id, 1) + (if_some(size, 2) + if_some(part, 4))
 }
 
 // ---- replies
 
-// A reply that names nothing.
+/// A reply that names nothing.
 pub fn plain(code: u64, events: usize, taken: usize, place: u64, missing: usize) -> Reply
     ensures { result ≡ plain code events taken place missing }
 {
@@ -161,18 +142,18 @@ fn refusal_reply(refusal: Refusal, events: usize, taken: usize) -> Reply
 }
 
 // The reply of why calls in a row stop.
-fn stop_reply(events: usize, taken: usize, stop: Stop) -> Reply
+fn stop_reply(events: usize, taken: usize, stop: Result<Stop, Refusal>) -> Reply
     ensures { result ≡ stop_reply events taken stop }
 {
     match stop {
-        Stop::Full => plain(DONE, events, taken, 0, 0),
-        Stop::NeedMore { missing } => plain(NEEDS_MORE, events, taken, 0, missing),
-        Stop::Finished => plain(FINISHED, events, taken, 0, 0),
-        Stop::Refused(refusal) => refusal_reply(refusal, events, taken),
+        Ok(Stop::Full) => plain(DONE, events, taken, 0, 0),
+        Ok(Stop::NeedMore { missing }) => plain(NEEDS_MORE, events, taken, 0, missing),
+        Ok(Stop::Finished) => plain(FINISHED, events, taken, 0, 0),
+        Err(refusal) => refusal_reply(refusal, events, taken),
     }
 }
 
-// The reply to calls in a row.
+/// The reply to calls in a row.
 pub fn ran_reply(r: Ran) -> Reply
     ensures { result ≡ ran_reply r }
 {
@@ -180,13 +161,13 @@ pub fn ran_reply(r: Ran) -> Reply
     stop_reply(r.count, r.taken, stop)
 }
 
-// The reply to a recovery that took so many bytes.
-pub fn search_reply(search: Search, taken: usize) -> Reply
+/// The reply to a recovery that took so many bytes.
+pub fn search_reply(search: Result<Search, Refusal>, taken: usize) -> Reply
     ensures { result ≡ search_reply search taken }
 {
     match search {
-        Search::Found { .. } => plain(FOUND, 0, taken, 0, 0),
-        Search::NotFound { .. } => plain(NOT_FOUND, 0, taken, 0, 0),
-        Search::Refused(refusal) => refusal_reply(refusal, 0, taken),
+        Ok(Search::Found { .. }) => plain(FOUND, 0, taken, 0, 0),
+        Ok(Search::NotFound { .. }) => plain(NOT_FOUND, 0, taken, 0, 0),
+        Err(refusal) => refusal_reply(refusal, 0, taken),
     }
 }

@@ -1,18 +1,18 @@
-// What a call on a decoder's words answers, in numbers.
+//! What a call on a decoder's words answers, in numbers.
 
-// A code, and where a call asks for a number, that number.
+/// A code, and where a call asks for a number, that number.
 #[repr(C)]
-#[derive(Clone, Copy)]
+#[derive(Clone, Copy, Debug, PartialEq, Eq)]
 pub struct Number {
     pub code: u64,
     pub value: u64,
 }
 
-// What calls in a row answer: a code, how many events were handed out and how many bytes were taken; a refusal's place;
-// how many bytes are missing, at least; and of the element that refusal 23 names, which of ID (1), size (2) and bytes
-// (4) there are, where it starts, and these.
+/// What calls in a row answer: a code, how many events were handed out and how many bytes were taken; a refusal's place;
+/// how many bytes are missing, at least; and of the element that refusal 23 names, which of ID (1), size (2) and bytes
+/// (4) there are, where it starts, and these.
 #[repr(C)]
-#[derive(Clone, Copy)]
+#[derive(Clone, Copy, Debug, PartialEq, Eq)]
 pub struct Reply {
     pub code: u64,
     pub events: u64,

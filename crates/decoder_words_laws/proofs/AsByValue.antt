@@ -21,8 +21,6 @@ use Rattle.many_events.specs.Many.{InARow, stopped, on_from, many_calls, one_cal
 use Rattle.many_events.specs.declared.types.Stop.TheVariants as stop
 use Rattle.stored_decoder.specs.Check.{check_words}
 use Rattle.stored_decoder.specs.Words.{word_count, decoder_words, record_of, yes_no}
-use Rattle.stored_decoder.specs.declared.types.Acceptance.{Acceptance}
-use Rattle.stored_decoder.specs.declared.types.Acceptance.TheVariants.{Accepted, Refused}
 use Rattle.stored_decoder.proofs.Checks.{record-arrays}
 use Rattle.stored_decoder.proofs.Cleaned.{cleaned_same, accepted_clean, accepted_absent}
 use Rattle.stored_decoder.proofs.Restoring.{accepts}
@@ -39,6 +37,9 @@ use Rattle.decoder_words.proofs.Answered.{on_accepted}
 use Rattle.decoder_words.proofs.Words.{decoding_made, recovery_made, setting_made}
 use Rattle.decoder_words_laws.specs.WordCalls.{room_for_one, reply_and_words, code_and_words, call_on, words_next, words_after, replies_to, answer_reply, reply_of, answer_list, decoded_words, AsByValue}
 use Rattle.decoder_words_laws.proofs.StayAccepted.{accepted_sound, sound_accepted}
+use Rattle.std.specs.Prelude.{Err, Ok, Result, ⊤}
+use Rattle.decoder_rules.specs.declared.types.Refusal.{Refusal}
+use Rattle.stored_decoder.specs.declared.types.StoreError.{StoreError}
 
 -- ---- records that words hold as they are
 
@@ -52,7 +53,7 @@ kept_after : (es ps : List ℕ) (cs : List Call) → Lent cs → Kept (record_af
 kept_after es ps cs l = record { sound = sound_after es ps cs l; tidy = tidy_after es ps cs l }
 
 -- so is the record of words that are a decoder's
-pub accepted_kept : (w : List ℕ) → check_words w ≡ Accepted → Kept (record_of w)
+pub accepted_kept : (w : List ℕ) → check_words w ≡ Ok tt → Kept (record_of w)
 accepted_kept w c =
     let g = good_state_lem (record_of w) (accepts w c).state in
     record {
@@ -72,12 +73,12 @@ pub list_unread : (eof : Bool) (es ps w s l m : List ℕ) → length l / event_s
 unfolding decode_words many_events
 list_unread eof es ps w s l m h = go (check_words w)
   where
-    on : List ℕ → Acceptance → Reply × List ℕ
+    on : List ℕ → Result ⊤ StoreError → Reply × List ℕ
     on x a = reply_and_words (of_record (λ d. ran_words (many_events eof es ps d s x)) (λ e. (plain (words_refused e) 0 0 0 0, w, x)) w a)
 
-    go : (a : Acceptance) → on l a ≡ on m a
-    go Accepted = ap (λ (n : ℕ). let r = many_calls (one_call eof es ps) n (record_of w) s in (ran_reply (ran_of r), decoder_words r.state)) h
-    go (Refused e) = refl
+    go : (a : Result ⊤ StoreError) → on l a ≡ on m a
+    go (Ok _) = ap (λ (n : ℕ). let r = many_calls (one_call eof es ps) n (record_of w) s in (ran_reply (ran_of r), decoder_words r.state)) h
+    go (Err e) = refl
 
 -- calls in a row with room for one event are one call
 many_one : (eof : Bool) (es ps : List ℕ) (d : TagDecoder) (s l : List ℕ) → length l ≡ event_size → ran_words (many_events eof es ps d s l) ≡ decoded_words (one_call eof es ps d s) l
@@ -89,13 +90,13 @@ many_one eof es ps d s l h =
     handed : InARow → Reply × List ℕ × List ℕ
     handed r = ran_words (ran_of r, listed r.events l)
 
-    by : (a : Answer) (n : ℕ) (e : TagDecoder) → handed (on_from a n e (stopped stop.Full e)) ≡ (answer_reply a n, decoder_words e, answer_list e a l)
-    by (answer.Event x) n e =
+    by : (a : Result Answer Refusal) (n : ℕ) (e : TagDecoder) → handed (on_from a n e (stopped (Ok stop.Full) e)) ≡ (answer_reply a n, decoder_words e, answer_list e a l)
+    by (Ok (answer.Event x)) n e =
         let f : (event_words e x ++ []) ++ drop event_size l ≡ event_words e x = ap (λ (y : List ℕ). (event_words e x ++ []) ++ y) (drop_of_length-le l {i = event_size} (omega arith)) ∙ append-nil _ ∙ append-nil _ in
         ap₂ (λ (i : ℕ) (y : List ℕ). (plain done 1 i 0 0, decoder_words e, y)) (add-zero n) f
-    by (answer.NeedMore missing) n e = refl
-    by answer.Finished n e = refl
-    by (answer.Refused x) n e = refl
+    by (Ok (answer.NeedMore missing)) n e = refl
+    by (Ok answer.Finished) n e = refl
+    by (Err x) n e = refl
 
 -- ---- a call on the words of a record
 
@@ -105,7 +106,7 @@ module _ (d : TagDecoder) (k : Kept d) where
   own = record-back d k.tidy.arrays ∙ cleaned_same d k.tidy.clean k.tidy.absent
 
   -- and are a decoder's
-  pub checked : check_words (decoder_words d) ≡ Accepted
+  pub checked : check_words (decoder_words d) ≡ Ok tt
   checked = sound_accepted d k.sound
 
   -- a call that decodes, with room for one event

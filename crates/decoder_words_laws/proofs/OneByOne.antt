@@ -17,7 +17,6 @@ use Rattle.many_events.specs.declared.types.Stop.{Stop}
 use Rattle.many_events.specs.declared.types.Stop.TheVariants as stop
 use Rattle.stored_decoder.specs.Check.{check_words}
 use Rattle.stored_decoder.specs.Words.{word_count, decoder_words, record_of}
-use Rattle.stored_decoder.specs.declared.types.Acceptance.TheVariants.{Accepted}
 use Rattle.stored_decoder.proofs.Restoring.{accepted_own}
 use Rattle.guarantees.specs.Calls.{Call, decoding, ending, Lent}
 use Rattle.decoder_words.specs.Calls.{decode_words}
@@ -26,26 +25,28 @@ use Rattle.decoder_words.specs.declared.types.Reply.{Reply}
 use Rattle.decoder_words.proofs.Words.{decoding_made}
 use Rattle.decoder_words_laws.specs.WordCalls.{room_for_one, call_on, words_after, answer_reply, answer_list, with_one_more, followed, one_by_one, in_front_of, call_with, last_or, calls_made, ManyByValue}
 use Rattle.decoder_words_laws.proofs.AsByValue.{Kept, accepted_kept, next_kept, one_made, as_by_value}
+use Rattle.std.specs.Prelude.{Err, Ok, Result}
+use Rattle.decoder_rules.specs.declared.types.Refusal.{Refusal}
 
 -- ---- replies
 
 -- an event before the others is counted with them
-one_more : (n events taken : ℕ) (why : Stop) → with_one_more n (stop_reply events taken why) ≡ stop_reply (suc events) (n + taken) why
-one_more n events taken stop.Full = refl
-one_more n events taken (stop.NeedMore missing) = refl
-one_more n events taken stop.Finished = refl
-one_more n events taken (stop.Refused r) = go _ (named_by r.error)
+one_more : (n events taken : ℕ) (why : Result Stop Refusal) → with_one_more n (stop_reply events taken why) ≡ stop_reply (suc events) (n + taken) why
+one_more n events taken (Ok stop.Full) = refl
+one_more n events taken (Ok (stop.NeedMore missing)) = refl
+one_more n events taken (Ok stop.Finished) = refl
+one_more n events taken (Err r) = go _ (named_by r.error)
   where
     go : (code : ℕ) (x : Named) → with_one_more n (naming code events taken r.place x) ≡ naming code (suc events) (n + taken) r.place x
     go code nothing = refl
     go code (cut c) = refl
 
 -- a reply tells how many events there are
-reply_events : (events taken : ℕ) (why : Stop) → (stop_reply events taken why).events ≡ events
-reply_events events taken stop.Full = refl
-reply_events events taken (stop.NeedMore missing) = refl
-reply_events events taken stop.Finished = refl
-reply_events events taken (stop.Refused r) = go _ (named_by r.error)
+reply_events : (events taken : ℕ) (why : Result Stop Refusal) → (stop_reply events taken why).events ≡ events
+reply_events events taken (Ok stop.Full) = refl
+reply_events events taken (Ok (stop.NeedMore missing)) = refl
+reply_events events taken (Ok stop.Finished) = refl
+reply_events events taken (Err r) = go _ (named_by r.error)
   where
     go : (code : ℕ) (x : Named) → (naming code events taken r.place x).events ≡ events
     go code nothing = refl
@@ -67,20 +68,20 @@ module _ (eof : Bool) (es ps : List ℕ) where
       go false = next_kept es ps d k (decoding s) byte
 
   -- by the answer of the first call: n is how many may follow it
-  first_then : (n : ℕ) (s : List ℕ) (a : Answer) (taken : ℕ) (d : TagDecoder)
+  first_then : (n : ℕ) (s : List ℕ) (a : Result Answer Refusal) (taken : ℕ) (d : TagDecoder)
       → one_by_one eof es ps n (decoder_words d) (drop taken s) ≡ handed_out (many_calls (one_call eof es ps) n d (drop taken s))
       → followed (answer_reply a taken).events (answer_reply a taken, decoder_words d, answer_list d a room_for_one) (one_by_one eof es ps n (decoder_words d) (drop (answer_reply a taken).taken s))
       ≡ handed_out (on_from a taken d (many_calls (one_call eof es ps) n d (drop taken s)))
   unfolding flat_map
-  first_then n s (answer.Event e) taken d others =
+  first_then n s (Ok (answer.Event e)) taken d others =
       let m = many_calls (one_call eof es ps) n d (drop taken s) in
       ap (λ (x : Reply × List ℕ × List ℕ). (with_one_more taken x.0, x.1, event_words d e ++ x.2)) others
       ∙ ap (λ (x : Reply). (x, decoder_words m.state, event_words d e ++ flat_map (λ words. words) m.events)) (one_more taken (length m.events) m.taken m.stop)
-  first_then n s (answer.NeedMore missing) taken d others = refl
-  first_then n s answer.Finished taken d others = refl
-  first_then n s (answer.Refused r) taken d others =
-      let x = stop_reply 0 0 (stop.Refused r) in
-      ap (λ (k : ℕ). followed k (x, decoder_words d, room_for_one) (one_by_one eof es ps n (decoder_words d) (drop x.taken s))) (reply_events 0 0 (stop.Refused r))
+  first_then n s (Ok (answer.NeedMore missing)) taken d others = refl
+  first_then n s (Ok answer.Finished) taken d others = refl
+  first_then n s (Err r) taken d others =
+      let x = stop_reply 0 0 (Err r) in
+      ap (λ (k : ℕ). followed k (x, decoder_words d, room_for_one) (one_by_one eof es ps n (decoder_words d) (drop x.taken s))) (reply_events 0 0 (Err r))
 
   -- the calls with room for one hand out what the calls in a row do
   one_by_one_lem : (n : ℕ) (d : TagDecoder) → Kept d → (s : List ℕ) → Octets s → one_by_one eof es ps n (decoder_words d) s ≡ handed_out (many_calls (one_call eof es ps) n d s)
@@ -92,7 +93,7 @@ module _ (eof : Bool) (es ps : List ℕ) where
       ∙ first_then n s r.answer r.taken r.state (one_by_one_lem n r.state (one_kept d k s byte) (drop r.taken s) (octets_drop r.taken s byte))
 
   -- so a call with room for many is so many calls with room for one
-  pub many_as_one_by_one : (w : List ℕ) → check_words w ≡ Accepted → (s l : List ℕ) → Octets s
+  pub many_as_one_by_one : (w : List ℕ) → check_words w ≡ Ok tt → (s l : List ℕ) → Octets s
       → decode_words eof es ps w s l ≡ in_front_of l (one_by_one eof es ps (length l / event_size) w s)
   unfolding many_events
   many_as_one_by_one w c s l byte =

@@ -1,7 +1,7 @@
 -- Any calls on the words of one decoder, made through the calls for C, beside the same calls by value: `guarantees` has
 -- these with their history, latest first, and so stand the calls here. A call that decodes is lent a list with room for
 -- one event.
-use Rattle.std.specs.Prelude.{ℕ, zero, suc, ◌+◌, ◌*◌, ◌/◌, Bool, true, false, List, [], ◌∷◌, ◌++◌, map, ◌≡◌, length, drop, replicate}
+use Rattle.std.specs.Prelude.{ℕ, zero, suc, ◌+◌, ◌*◌, ◌/◌, Bool, true, false, List, [], ◌∷◌, ◌++◌, map, ◌≡◌, length, drop, replicate, Err, Ok, Result}
 use Rattle.decoder_rules.specs.EndOfInput.{decode_eof}
 use Rattle.decoder_rules.specs.Moving.{decode}
 use Rattle.decoder_rules.specs.Recovery.{try_recover}
@@ -14,11 +14,11 @@ use Rattle.many_events.specs.Events.{event_size, event_words}
 use Rattle.many_events.specs.declared.types.Stop.TheVariants as stop
 use Rattle.stored_decoder.specs.Check.{check_words}
 use Rattle.stored_decoder.specs.Words.{decoder_words, record_of, yes_no}
-use Rattle.stored_decoder.specs.declared.types.Acceptance.TheVariants.{Accepted}
 use Rattle.guarantees.specs.Calls.{Call, decoding, ending, recovering, allow, strictly, limit, Response, answered, searched, silent, Step, record_after, history, Lent}
 use Rattle.decoder_words.specs.Calls.{new_words, set_words, allow_words, strict_words, limit_words, position_words, finished_words, decode_words, searched_words, recover_words}
 use Rattle.decoder_words.specs.Replies.{done, plain, stop_reply, search_reply, told}
 use Rattle.decoder_words.specs.declared.types.Reply.{Reply}
+use Rattle.decoder_rules.specs.declared.types.Refusal.{Refusal}
 
 -- ---- calls on words
 
@@ -61,11 +61,11 @@ module _ (es ps : List ℕ) where
 -- ---- what is answered by value, as a reply
 
 -- an answer, after so many bytes
-abbrev pub answer_reply : Answer → ℕ → Reply
-answer_reply (answer.Event e) taken = plain done 1 taken 0 0
-answer_reply (answer.NeedMore missing) taken = stop_reply 0 0 (stop.NeedMore missing)
-answer_reply answer.Finished taken = stop_reply 0 0 stop.Finished
-answer_reply (answer.Refused r) taken = stop_reply 0 0 (stop.Refused r)
+abbrev pub answer_reply : Result Answer Refusal → ℕ → Reply
+answer_reply (Ok (answer.Event e)) taken = plain done 1 taken 0 0
+answer_reply (Ok (answer.NeedMore missing)) taken = stop_reply 0 0 (Ok (stop.NeedMore missing))
+answer_reply (Ok answer.Finished) taken = stop_reply 0 0 (Ok stop.Finished)
+answer_reply (Err r) taken = stop_reply 0 0 (Err r)
 
 -- what any call answers
 abbrev pub reply_of : Response → Reply
@@ -74,11 +74,11 @@ reply_of (searched a taken) = search_reply a taken
 reply_of silent = plain done 0 0 0 0
 
 -- the list with room for one event, after an answer that left the record d: the event, or what the list held
-abbrev pub answer_list : TagDecoder → Answer → List ℕ → List ℕ
-answer_list d (answer.Event e) l = event_words d e
-answer_list d (answer.NeedMore missing) l = l
-answer_list d answer.Finished l = l
-answer_list d (answer.Refused r) l = l
+abbrev pub answer_list : TagDecoder → Result Answer Refusal → List ℕ → List ℕ
+answer_list d (Ok (answer.Event e)) l = event_words d e
+answer_list d (Ok (answer.NeedMore missing)) l = l
+answer_list d (Ok answer.Finished) l = l
+answer_list d (Err r) l = l
 
 -- the reply, the words and the list after a call that decodes
 abbrev pub decoded_words : Decoded → List ℕ → Reply × List ℕ × List ℕ
@@ -92,7 +92,7 @@ pub record AsByValue (es ps v : List ℕ) (cs : List Call) : Type 0 where
   pub words : words_after es ps v cs ≡ decoder_words (record_after es ps cs)
   pub holds : record_of (words_after es ps v cs) ≡ record_after es ps cs
   -- so no call refuses them
-  pub accepted : check_words (words_after es ps v cs) ≡ Accepted
+  pub accepted : check_words (words_after es ps v cs) ≡ Ok tt
   -- every reply was the answer by value: what demand 3 says of this history and of that record is said of these calls
   pub replies : replies_to es ps v cs ≡ map (λ (x : Step). reply_of x.told) (history es ps cs)
   -- and so is what the next call gives: a decode or an end of input, whatever the list of one event's room holds

@@ -11,9 +11,7 @@ use Rattle.tools.specs.Integer.{u64_to_arr}
 use Rattle.tools.specs.Refusals.{number_of}
 use Rattle.tools.specs.declared.errors.ToolError.{ToolError}
 use Rattle.tools.specs.declared.errors.ToolError.TheVariants.{ReadVintOverflow, WriteVintOverflow, WriteSignedVintOverflow, WidthMismatch, OutputTooShort, ReadU64Overflow, ReadI64Overflow, ReadF64Mismatch}
-use Rattle.tools.specs.declared.vint.Written.{Written}
 use Rattle.table.specs.Check.{rule_number, check_table}
-use Rattle.table.specs.declared.types.Checked.TheVariants.{BadShape, Fault}
 use Rattle.table.specs.declared.types.Rule.{Rule}
 use Rattle.table.specs.declared.types.Rule.TheVariants.{NoElementId, Repeated, GlobalInMaster, NoMaster, OtherPath}
 use Rattle.table.proofs.Entries.{length_table}
@@ -24,9 +22,12 @@ use Rattle.tag_writer.specs.Write.{write}
 use Rattle.tag_writer.specs.declared.types.WriteError.{WriteError}
 use Rattle.tag_writer.specs.declared.types.WriteError.TheVariants as refused
 use Rattle.tag_writer.specs.declared.types.WriteError.TheVariants.{TableFails, TooManyItems, Unmatched, WrongItem}
-use Rattle.tag_writer.specs.declared.types.Wrote.{Wrote}
 use Rattle.ebml.specs.Writing.{wrote_out, write_out, GivesBoth}
 use Rattle.ebml.specs.Numbers.{refusal_of, need_more_of, code_of, result_of, value_out, written_out}
+use Rattle.std.specs.Prelude.{Err, Result}
+use Rattle.table.specs.declared.types.TableError.TheVariants as fault
+use Rattle.std.specs.Prelude.{⊤}
+use Rattle.table.specs.declared.types.TableError.{TableError}
 
 pub number_small : (e : ToolError) → number_of e ≤ 7
 number_small ReadVintOverflow = omega arith
@@ -50,11 +51,11 @@ pub refusal_below : (e : ToolError) (missing : ℕ) → refusal_of e < need_more
 refusal_below e missing = omega (arith, number_small e)
 
 -- the number of what a writer answered, and the bytes that it left
-pub written : {w : Written} {r : ℕ} {o : List ℕ} {p : Written × List ℕ} → r ≡ code_of w → Gives w o p → Gives r o (written_out p)
+pub written : {w : Result ℕ ToolError} {r : ℕ} {o : List ℕ} {p : Result ℕ ToolError × List ℕ} → r ≡ code_of w → Gives w o p → Gives r o (written_out p)
 written e g = record { answer = e ∙ ap code_of g.answer; bytes = g.bytes }
 
 -- a value that was handed to the lent bytes
-pub handed : (result v : ℕ) (out : List ℕ) {w : Written} {r : ℕ} {o : List ℕ}
+pub handed : (result v : ℕ) (out : List ℕ) {w : Result ℕ ToolError} {r : ℕ} {o : List ℕ}
     → r ≡ result_of result w → Gives w o (u64_to_arr v out) → Gives r o (value_out result v out)
 unfolding u64_to_arr
 handed result v out {w} {r} {o} e g = go (dec_le 8 (length out))
@@ -75,13 +76,13 @@ rule_small NoMaster = omega arith
 rule_small OtherPath = omega arith
 
 -- a fault is of one of at most 64 entries
-pub few_faults : (es ps : List ℕ) {r : Rule} {i : ℕ} → check_table es ps ≡ Fault r i → i < 64
+pub few_faults : (es ps : List ℕ) {r : Rule} {i : ℕ} → check_table es ps ≡ Err (fault.Fault r i) → i < 64
 few_faults es ps {r} {i} e =
     let f = fault_is es ps e in
     let good = answered es ps (λ b. never (sym e ∙ b)) in
     omega (arith, f.there, length_table es ps, (shaped es ps good).few_entries)
   where
-    never : Fault r i ≡ BadShape → ⊥
+    never : ◌≡◌ {A = Result ⊤ TableError} (Err (fault.Fault r i)) (Err fault.BadShape) → ⊥
     never b = let z : ◌≡◌ {A = ℕ} 0 1 = cc in omega arith
 
 -- ---- the writer
@@ -92,7 +93,7 @@ pub told_short : (es ps items vals out told : List ℕ) {r : ℕ} → length tol
 told_short es ps items vals out told h e = rw (lt-ltb _ _ h) (record { answer = e; document = refl; told = refl })
 
 -- what the writer answered, handed to 8 bytes or more
-pub told-length : (es ps items vals out told : List ℕ) {w : Wrote} {r : ℕ} {o t : List ℕ} → 8 ≤ length told
+pub told-length : (es ps items vals out told : List ℕ) {w : Result ℕ WriteError} {r : ℕ} {o t : List ℕ} → 8 ≤ length told
     → Gives w o (write es ps items vals out) → Gives r t (wrote_out w told)
     → GivesBoth r o t (write_out es ps items vals out told)
 told-length es ps items vals out told h g k =

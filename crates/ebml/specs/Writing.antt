@@ -1,11 +1,9 @@
 -- Document 02, CR 2: the writer's answer as one result number, with the document's length in lent bytes.
-use Rattle.std.specs.Prelude.{ℕ, ◌+◌, cond, ◌≡◌, List, ltb, length}
+use Rattle.std.specs.Prelude.{ℕ, ◌+◌, cond, ◌≡◌, List, ltb, length, Err, Ok, Result}
 use Rattle.tools.specs.declared.errors.ToolError.TheVariants.{OutputTooShort}
 use Rattle.tag_writer.specs.Refusals.{error_number}
 use Rattle.tag_writer.specs.Write.{write}
 use Rattle.tag_writer.specs.declared.types.WriteError.{WriteError}
-use Rattle.tag_writer.specs.declared.types.Wrote.{Wrote}
-use Rattle.tag_writer.specs.declared.types.Wrote.TheVariants.{Written, Refused}
 use Rattle.ebml.specs.Numbers.{refusal_of, value_out}
 
 -- a refusal of the writer gives 256 plus its number
@@ -13,9 +11,9 @@ abbrev pub write_refusal_of : WriteError → ℕ
 write_refusal_of e = 256 + error_number e
 
 -- the length as a value, with the result 8, or a refusal, which leaves the lent bytes as they are
-abbrev pub wrote_out : Wrote → List ℕ → ℕ × List ℕ
-wrote_out (Written n) told = value_out 8 n told
-wrote_out (Refused e) told = (write_refusal_of e, told)
+abbrev pub wrote_out : Result ℕ WriteError → List ℕ → ℕ × List ℕ
+wrote_out (Ok n) told = value_out 8 n told
+wrote_out (Err e) told = (write_refusal_of e, told)
 
 -- the result, the lent output and the lent bytes for the length; 5 before all others where those are fewer than 8
 abbrev pub write_out : List ℕ → List ℕ → List ℕ → List ℕ → List ℕ → List ℕ → ℕ × List ℕ × List ℕ

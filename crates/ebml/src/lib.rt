@@ -1,5 +1,5 @@
-// The calls of the library for a program in C, on numbers and lent bytes; include/ebml.h declares them and ebml_c
-// exports them.
+//! The calls of the library for a program in C, on numbers and lent bytes; include/ebml.h declares them and ebml_c
+//! exports them.
 #![tactic(auto)]
 
 mod answers;

@@ -1,4 +1,4 @@
-// The number routines: a result number, and a value or a vint at the front of the lent output.
+//! The number routines: a result number, and a value or a vint at the front of the lent output.
 
 ghost use Rattle.std.specs.Prelude.{◌≡◌};
 ghost use Rattle.tools.specs.Answers.{Gives};
@@ -11,103 +11,102 @@ ghost use Rattle.ebml.specs.Numbers.{read_out, read_signed_out, written_out, yes
 
 use crate::answers::{code_of, hand_out, hand_out_signed, need_more, refusal};
 use tools::element_id::is_element_id;
-use tools::float::{ArrToF64, arr_to_f64};
-use tools::integer::{ArrToI64, ArrToU64, arr_to_i64, arr_to_u64};
-use tools::signed_vint::{
-    ReadSignedVint, as_signed_vint, as_signed_vint_with_length, read_signed_vint,
-};
-use tools::vint::{ReadVint, as_vint, as_vint_with_length, is_vint, read_vint};
+use tools::float::arr_to_f64;
+use tools::integer::{arr_to_i64, arr_to_u64};
+use tools::signed_vint::{as_signed_vint, as_signed_vint_with_length, read_signed_vint};
+use tools::status::Status;
+use tools::vint::{as_vint, as_vint_with_length, is_vint, read_vint};
 
-// The vint at the front of the buffer: its value out, its length the result; or how many bytes of it are missing.
+/// The vint at the front of the buffer: its value out, its length the result; or how many bytes of it are missing.
 pub fn ebml_read_vint(buffer: &[u8], out: &mut [u8]) -> u64
     ensures { Gives result out.new (read_out (read_vint buffer.now) out.old) }
 {
     match read_vint(buffer) {
-        ReadVint::NeedMore { missing } => need_more(missing),
-        ReadVint::Refused(e) => refusal(e),
-        ReadVint::Vint { value, length } => hand_out(length as u64, value, out),
+        Ok(Status::NeedMore { missing }) => need_more(missing),
+        Err(e) => refusal(e),
+        Ok(Status::Complete((value, length))) => hand_out(length as u64, value, out),
     }
 }
 
-// The same of a signed vint.
+/// The same of a signed vint. The C interface has a call, and a definition, for each of the two.
 pub fn ebml_read_signed_vint(buffer: &[u8], out: &mut [u8]) -> u64
     ensures { Gives result out.new (read_signed_out (read_signed_vint buffer.now) out.old) }
 {
     match read_signed_vint(buffer) {
-        ReadSignedVint::NeedMore { missing } => need_more(missing),
-        ReadSignedVint::Refused(e) => refusal(e),
-        ReadSignedVint::Vint { value, length } => hand_out_signed(length as u64, value, out),
+        Ok(Status::NeedMore { missing: bytes }) => need_more(bytes),
+        Err(e) => refusal(e),
+        Ok(Status::Complete((value, length))) => hand_out_signed(length as u64, value, out),
     }
 }
 
-// The vint of a value, of the least width.
+/// The vint of a value, of the least width.
 pub fn ebml_as_vint(val: u64, out: &mut [u8]) -> u64
     ensures { Gives result out.new (written_out (as_vint val out.old)) }
 {
     code_of(as_vint(val, out))
 }
 
-// The vint of a value in so many bytes.
+/// The vint of a value in so many bytes.
 pub fn ebml_as_vint_with_length(val: u64, width: usize, out: &mut [u8]) -> u64
     ensures { Gives result out.new (written_out (as_vint_with_length val width out.old)) }
 {
     code_of(as_vint_with_length(val, width, out))
 }
 
-// The signed vint of a number, of the least width.
+/// The signed vint of a number, of the least width.
 pub fn ebml_as_signed_vint(val: i64, out: &mut [u8]) -> u64
     ensures { Gives result out.new (written_out (as_signed_vint val out.old)) }
 {
     code_of(as_signed_vint(val, out))
 }
 
-// The signed vint of a number in so many bytes.
+/// The signed vint of a number in so many bytes.
 pub fn ebml_as_signed_vint_with_length(val: i64, width: usize, out: &mut [u8]) -> u64
     ensures { Gives result out.new (written_out (as_signed_vint_with_length val width out.old)) }
 {
     code_of(as_signed_vint_with_length(val, width, out))
 }
 
-// 1 where the highest set bit is where a vint has its marker, else 0.
+/// 1 where the highest set bit is where a vint has its marker, else 0.
 pub fn ebml_is_vint(val: u64) -> u64
     ensures { result ≡ yes_no (is_vint val) }
 {
-    if is_vint(val) { 1 } else { 0 }
+    u64::from(is_vint(val))
 }
 
-// 1 where a number is an Element ID as RFC 8794 allows it, else 0.
+/// 1 where a number is an Element ID as RFC 8794 allows it, else 0.
 pub fn ebml_is_element_id(id: u64) -> u64
     ensures { result ≡ yes_no (is_element_id id) }
 {
-    if is_element_id(id) { 1 } else { 0 }
+    u64::from(is_element_id(id))
 }
 
-// The number of up to 8 bytes.
+/// The number of up to 8 bytes.
 pub fn ebml_arr_to_u64(arr: &[u8], out: &mut [u8]) -> u64
     ensures { Gives result out.new (unsigned_out (arr_to_u64 arr.now) out.old) }
 {
     match arr_to_u64(arr) {
-        ArrToU64::Value(value) => hand_out(8, value, out),
-        ArrToU64::Refused(e) => refusal(e),
+        Ok(value) => hand_out(8, value, out),
+        Err(e) => refusal(e),
     }
 }
 
-// The same in two's complement.
+/// The same in two's complement.
 pub fn ebml_arr_to_i64(arr: &[u8], out: &mut [u8]) -> u64
     ensures { Gives result out.new (integer_out (arr_to_i64 arr.now) out.old) }
 {
     match arr_to_i64(arr) {
-        ArrToI64::Value(value) => hand_out_signed(8, value, out),
-        ArrToI64::Refused(e) => refusal(e),
+        Ok(value) => hand_out_signed(8, value, out),
+        Err(e) => refusal(e),
     }
 }
 
-// The 64 bits of a float of 4 or 8 bytes.
+/// The 64 bits of a float of 4 or 8 bytes.
 pub fn ebml_arr_to_f64(arr: &[u8], out: &mut [u8]) -> u64
     ensures { Gives result out.new (float_out (arr_to_f64 arr.now) out.old) }
 {
     match arr_to_f64(arr) {
-        ArrToF64::Bits(bits) => hand_out(8, bits, out),
-        ArrToF64::Refused(e) => refusal(e),
+        Ok(bits) => hand_out(8, bits, out),
+        Err(e) => refusal(e),
     }
 }

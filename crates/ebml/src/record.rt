@@ -1,4 +1,4 @@
-// Is a record whole, for a program that has all of it in memory.
+//! Is a record whole, for a program that has all of it in memory.
 
 ghost use Rattle.std.specs.Prelude.{◌≡◌};
 ghost use Rattle.stored_decoder.specs.Words.{is_yes};
@@ -10,7 +10,7 @@ use whole::memory::verdict_on;
 use whole::numbers::numbers_of;
 use whole::types::VerdictNumbers;
 
-// The verdict of `ebml-check` on a record that is all there, with the table lent; strictly, or with 0 as ported.
+/// The verdict of `ebml-check` on a record that is all there, with the table lent; strictly, or with 0 as ported.
 pub fn ebml_is_whole(entries: &[u64], parts: &[u64], strict: u64, input: &[u8]) -> VerdictNumbers
     ensures { result ≡ verdict_numbers (verdict_of (answers_to (is_yes strict) entries.now parts.now input.now)) }
 {

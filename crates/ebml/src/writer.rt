@@ -1,4 +1,4 @@
-// The writer, for a program that has a list of items and wants its document.
+//! The writer, for a program that has a list of items and wants its document.
 
 ghost use Rattle.std.specs.Prelude.{◌≡◌};
 ghost use Rattle.tools.specs.Answers.{Gives};
@@ -6,7 +6,7 @@ ghost use Rattle.ebml.specs.Writing.{write_refusal_of, wrote_out, write_out, Giv
 
 use crate::answers::{hand_out, refusal};
 use tag_writer::errors::error_number;
-use tag_writer::types::{WriteError, Wrote};
+use tag_writer::types::WriteError;
 use tag_writer::writing::write;
 use tools::errors::ToolError;
 
@@ -18,16 +18,16 @@ fn write_refusal(e: WriteError) -> u64
 }
 
 // The document's length at the front of the lent bytes, or the refusal.
-fn hand_out_length(w: Wrote, written: &mut [u8]) -> u64
+fn hand_out_length(w: Result<usize, WriteError>, written: &mut [u8]) -> u64
     ensures { Gives result written.new (wrote_out w written.old) }
 {
     match w {
-        Wrote::Written(n) => hand_out(8, n as u64, written),
-        Wrote::Refused(e) => write_refusal(e),
+        Ok(n) => hand_out(8, n as u64, written),
+        Err(e) => write_refusal(e),
     }
 }
 
-// The document of a list of items at the front of `out`, and its length in `written`.
+/// The document of a list of items at the front of `out`, and its length in `written`.
 pub fn ebml_write(
     entries: &[u64],
     parts: &[u64],

@@ -1,5 +1,5 @@
-// The decoder in the 320 words that a program lends: a new one, its settings, its calls, and the block that it is
-// stored in.
+//! The decoder in the 320 words that a program lends: a new one, its settings, its calls, and the block that it is
+//! stored in.
 
 ghost use Rattle.std.specs.Prelude.{true, false, ◌≡◌};
 ghost use Rattle.tools.specs.Answers.{Gives};
@@ -11,7 +11,7 @@ use decoder_words::types::{Number, Reply};
 
 // ---- a new decoder, and its settings
 
-// A fresh decoder in the lent words, whatever they held.
+/// A fresh decoder in the lent words, whatever they held.
 #[unsafe(no_mangle)]
 pub extern "C" fn ebml_decoder_new(words: &mut [u64; 320]) -> u64
     ensures { Gives result words.new (new_words words.old) }
@@ -19,7 +19,7 @@ pub extern "C" fn ebml_decoder_new(words: &mut [u64; 320]) -> u64
     ebml::decoder::ebml_decoder_new(words)
 }
 
-// Exactly those of the tests are switched off whose number is not 0.
+/// Exactly those of the tests are switched off whose number is not 0.
 #[unsafe(no_mangle)]
 pub extern "C" fn ebml_allow_errors(
     words: &mut [u64; 320],
@@ -32,7 +32,7 @@ pub extern "C" fn ebml_allow_errors(
     ebml::decoder::ebml_allow_errors(words, ids, hierarchy, oversized)
 }
 
-// From now on reading is strict, or with 0 as ported.
+/// From now on reading is strict, or with 0 as ported.
 #[unsafe(no_mangle)]
 pub extern "C" fn ebml_set_strict(words: &mut [u64; 320], strict: u64) -> u64
     ensures { Gives result words.new (strict_words words.old (is_yes strict)) }
@@ -40,7 +40,7 @@ pub extern "C" fn ebml_set_strict(words: &mut [u64; 320], strict: u64) -> u64
     ebml::decoder::ebml_set_strict(words, strict)
 }
 
-// From now on elements of more than this size are refused, or with `given` 0 none is for its size.
+/// From now on elements of more than this size are refused, or with `given` 0 none is for its size.
 #[unsafe(no_mangle)]
 pub extern "C" fn ebml_set_max_allowable_tag_size(
     words: &mut [u64; 320],
@@ -54,7 +54,7 @@ pub extern "C" fn ebml_set_max_allowable_tag_size(
 
 // ---- what a decoder tells of itself
 
-// The position: how many bytes were taken.
+/// The position: how many bytes were taken.
 #[unsafe(no_mangle)]
 pub extern "C" fn ebml_position(words: &[u64; 320]) -> Number
     ensures { result ≡ position_words words.now }
@@ -62,7 +62,7 @@ pub extern "C" fn ebml_position(words: &[u64; 320]) -> Number
     ebml::decoder::ebml_position(words)
 }
 
-// 1 where the end of input was told and every End is handed out, else 0.
+/// 1 where the end of input was told and every End is handed out, else 0.
 #[unsafe(no_mangle)]
 pub extern "C" fn ebml_is_finished(words: &[u64; 320]) -> Number
     ensures { result ≡ finished_words words.now }
@@ -72,7 +72,7 @@ pub extern "C" fn ebml_is_finished(words: &[u64; 320]) -> Number
 
 // ---- decoding
 
-// The next event, in the 8 words lent for it.
+/// The next event, in the 8 words lent for it.
 #[unsafe(no_mangle)]
 pub extern "C" fn ebml_decode(
     words: &mut [u64; 320],
@@ -86,7 +86,7 @@ pub extern "C" fn ebml_decode(
     ebml::decoder::ebml_decode(words, entries, parts, input, event)
 }
 
-// The same at the end of input.
+/// The same at the end of input.
 #[unsafe(no_mangle)]
 pub extern "C" fn ebml_decode_eof(
     words: &mut [u64; 320],
@@ -100,7 +100,7 @@ pub extern "C" fn ebml_decode_eof(
     ebml::decoder::ebml_decode_eof(words, entries, parts, input, event)
 }
 
-// As many events as the lent list has room for, 8 words each.
+/// As many events as the lent list has room for, 8 words each.
 #[unsafe(no_mangle)]
 pub extern "C" fn ebml_decode_many(
     words: &mut [u64; 320],
@@ -114,7 +114,7 @@ pub extern "C" fn ebml_decode_many(
     ebml::decoder::ebml_decode_many(words, entries, parts, input, events)
 }
 
-// The same at the end of input.
+/// The same at the end of input.
 #[unsafe(no_mangle)]
 pub extern "C" fn ebml_decode_many_eof(
     words: &mut [u64; 320],
@@ -128,7 +128,7 @@ pub extern "C" fn ebml_decode_many_eof(
     ebml::decoder::ebml_decode_many_eof(words, entries, parts, input, events)
 }
 
-// The search for the next valid header.
+/// The search for the next valid header.
 #[unsafe(no_mangle)]
 pub extern "C" fn ebml_try_recover(
     words: &mut [u64; 320],
@@ -143,7 +143,7 @@ pub extern "C" fn ebml_try_recover(
 
 // ---- over a restart
 
-// The decoder as a block in the lent bytes.
+/// The decoder as a block in the lent bytes.
 #[unsafe(no_mangle)]
 pub extern "C" fn ebml_store(words: &[u64; 320], block: &mut [u8]) -> u64
     ensures { Gives result block.new (store_from_words words.now block.old) }
@@ -151,7 +151,7 @@ pub extern "C" fn ebml_store(words: &[u64; 320], block: &mut [u8]) -> u64
     ebml::decoder::ebml_store(words, block)
 }
 
-// The decoder of a block in the lent words, whatever they held.
+/// The decoder of a block in the lent words, whatever they held.
 #[unsafe(no_mangle)]
 pub extern "C" fn ebml_restore(words: &mut [u64; 320], block: &[u8]) -> u64
     ensures { Gives result words.new (restore_to_words words.old block.now) }

@@ -1,5 +1,5 @@
-// The library `ebml` for a program in C: an export for each of its calls, under the call's own name and with its clauses,
-// which makes the call; include/ebml.h declares them. A crate is a library or a static library, and so it stands apart.
+//! The library `ebml` for a program in C: an export for each of its calls, under the call's own name and with its clauses,
+//! which makes the call; include/ebml.h declares them. A crate is a library or a static library, and so it stands apart.
 #![tactic(auto)]
 
 pub mod checks;

@@ -1,4 +1,4 @@
-// Is a record whole, for a program that has all of it in memory.
+//! Is a record whole, for a program that has all of it in memory.
 
 ghost use Rattle.std.specs.Prelude.{◌≡◌};
 ghost use Rattle.stored_decoder.specs.Words.{is_yes};
@@ -8,7 +8,7 @@ ghost use Rattle.whole.specs.Numbers.{verdict_numbers};
 
 use whole::types::VerdictNumbers;
 
-// The verdict of `ebml-check` on a record that is all there, with the table lent; strictly, or with 0 as ported.
+/// The verdict of `ebml-check` on a record that is all there, with the table lent; strictly, or with 0 as ported.
 #[unsafe(no_mangle)]
 pub extern "C" fn ebml_is_whole(
     entries: &[u64],

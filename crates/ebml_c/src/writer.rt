@@ -1,8 +1,8 @@
-// The writer, for a program that has a list of items and wants its document.
+//! The writer, for a program that has a list of items and wants its document.
 
 ghost use Rattle.ebml.specs.Writing.{write_out, GivesBoth};
 
-// The document of a list of items at the front of `out`, and its length in `written`.
+/// The document of a list of items at the front of `out`, and its length in `written`.
 #[unsafe(no_mangle)]
 pub extern "C" fn ebml_write(
     entries: &[u64],

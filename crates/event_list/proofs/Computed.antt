@@ -13,8 +13,10 @@ use Rattle.event_list.specs.Line.{line}
 use Rattle.event_list.specs.Reading.{begun}
 use Rattle.event_list.specs.Whole.{next_answer, Answered, answered_by, Answers, goes_on, ends, lines_of, ListOf}
 use Rattle.event_list.specs.Computed.{with_others, listed_from, listed}
+use Rattle.std.specs.Prelude.{Err, Ok, Result}
+use Rattle.decoder_rules.specs.declared.types.Refusal.{Refusal}
 
-no_event : (a : Answer) → is_no_event a ≡ true → (e : Event) → a ≡ answer.Event e → ⊥
+no_event : (a : Result Answer Refusal) → is_no_event a ≡ true → (e : Event) → a ≡ Ok (answer.Event e) → ⊥
 no_event a n e q = absurd (false≢true (rw q at n))
 
 -- what follows an answer
@@ -41,15 +43,15 @@ unfolding listed_from lines_of
 reads size zero r s h = absurd (false≢true h)
 reads size (suc n) r s h = go r.answer refl h (reads size n (next_answer size r.state (drop r.taken s)) (drop r.taken s))
   where
-    go : (a : Answer) → r.answer ≡ a → (with_others a (line_of r) (following size n r s)).0 ≡ true
+    go : (a : Result Answer Refusal) → r.answer ≡ a → (with_others a (line_of r) (following size n r s)).0 ≡ true
         → ((following size n r s tt).0 ≡ true → Read size (next_answer size r.state (drop r.taken s)) (drop r.taken s) (following size n r s tt).1)
         → Read size r s (with_others a (line_of r) (following size n r s)).1
-    go (answer.Event e) q k others =
+    go (Ok (answer.Event e)) q k others =
         let o = others k in
         record { all = answered_by r ∷ o.all; to = goes_on r s q o.to; lines = ap (λ (t : List ℕ). line_of r ++ t) o.lines }
-    go (answer.NeedMore missing) q k others = alone size r s (rw q)
-    go answer.Finished q k others = alone size r s (rw q)
-    go (answer.Refused x) q k others = alone size r s (rw q)
+    go (Ok (answer.NeedMore missing)) q k others = alone size r s (rw q)
+    go (Ok answer.Finished) q k others = alone size r s (rw q)
+    go (Err x) q k others = alone size r s (rw q)
 
 -- of a whole input: where n lines are all of it, they are its list
 pub listed_is_the_list : (strict : Bool) (size n : ℕ) (s : List ℕ) → (listed strict size n s).0 ≡ true → ListOf strict size s (listed strict size n s).1

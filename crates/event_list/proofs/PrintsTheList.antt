@@ -38,6 +38,8 @@ use Rattle.tag_decoder_laws.proofs.Finishing.{finished_kept}
 use Rattle.tag_decoder_laws.proofs.Nearer.{weight, more_light}
 use Rattle.event_list.proofs.Taking.{call_takes, over_asks_no_more, reads_on}
 use Rattle.event_list.proofs.Views.{seen_all, view_answers, full_answers, asked_answers}
+use Rattle.std.specs.Prelude.{Err, Ok, Result}
+use Rattle.decoder_rules.specs.declared.types.Refusal.{Refusal}
 
 -- before the end of input
 record Still (d : TagDecoder) (s : List ℕ) : Type 0 where
@@ -112,49 +114,49 @@ module _ (l : Listing) (b : List ℕ) (ps : List (List ℕ)) (s : List ℕ) (inv
 
 -- ---- what follows from what is done next
 
-record IsEvent (a : Answer) : Type 0 where
+record IsEvent (a : Result Answer Refusal) : Type 0 where
   e : Event
-  is : a ≡ answer.Event e
+  is : a ≡ Ok (answer.Event e)
 
 -- a line is printed, and the list goes on, only after an event
-line_event : (a : Answer) (n room : ℕ) → next_of a n room ≡ Line → IsEvent a
-line_event (answer.Event x) n room q = record { e = x; is = refl }
-line_event (answer.NeedMore missing) n room q = never-line (ltb n room) q
+line_event : (a : Result Answer Refusal) (n room : ℕ) → next_of a n room ≡ Line → IsEvent a
+line_event (Ok (answer.Event x)) n room q = record { e = x; is = refl }
+line_event (Ok (answer.NeedMore missing)) n room q = never-line (ltb n room) q
   where
-    never-line : {m : ℕ} (t : Bool) → cond t Read Last ≡ Line → IsEvent (answer.NeedMore m)
+    never-line : {m : ℕ} (t : Bool) → cond t Read Last ≡ Line → IsEvent (Ok (answer.NeedMore m))
     never-line true e = let z : ◌≡◌ {A = ℕ} 0 1 = cc in absurd_eq z
     never-line false e = let z : ◌≡◌ {A = ℕ} 0 1 = cc in absurd_eq z
-line_event answer.Finished n room q = let z : ◌≡◌ {A = ℕ} 0 1 = cc in absurd_eq z
-line_event (answer.Refused r) n room q = let z : ◌≡◌ {A = ℕ} 0 1 = cc in absurd_eq z
+line_event (Ok answer.Finished) n room q = let z : ◌≡◌ {A = ℕ} 0 1 = cc in absurd_eq z
+line_event (Err r) n room q = let z : ◌≡◌ {A = ℕ} 0 1 = cc in absurd_eq z
 
 -- the last line is no event's
-last_no_event : (a : Answer) (n room : ℕ) → next_of a n room ≡ Last → (e : Event) → a ≡ answer.Event e → ⊥
-last_no_event (answer.Event x) n room q e h = let z : ◌≡◌ {A = ℕ} 0 1 = cc in absurd_eq z
-last_no_event (answer.NeedMore missing) n room q e h = let z : ◌≡◌ {A = ℕ} 0 1 = cc in absurd_eq z
-last_no_event answer.Finished n room q e h = let z : ◌≡◌ {A = ℕ} 0 1 = cc in absurd_eq z
-last_no_event (answer.Refused r) n room q e h = let z : ◌≡◌ {A = ℕ} 0 1 = cc in absurd_eq z
+last_no_event : (a : Result Answer Refusal) (n room : ℕ) → next_of a n room ≡ Last → (e : Event) → a ≡ Ok (answer.Event e) → ⊥
+last_no_event (Ok (answer.Event x)) n room q e h = let z : ◌≡◌ {A = ℕ} 0 1 = cc in absurd_eq z
+last_no_event (Ok (answer.NeedMore missing)) n room q e h = let z : ◌≡◌ {A = ℕ} 0 1 = cc in absurd_eq z
+last_no_event (Ok answer.Finished) n room q e h = let z : ◌≡◌ {A = ℕ} 0 1 = cc in absurd_eq z
+last_no_event (Err r) n room q e h = let z : ◌≡◌ {A = ℕ} 0 1 = cc in absurd_eq z
 
 -- where more is asked for, a full buffer makes it the last line
-last_full : (a : Answer) (n room : ℕ) → next_of a n room ≡ Last → needs_more a ≡ true → room ≤ n
-last_full (answer.Event x) n room q m = absurd (false≢true m)
-last_full (answer.NeedMore missing) n room q m = by (ltb n room) refl q
+last_full : (a : Result Answer Refusal) (n room : ℕ) → next_of a n room ≡ Last → needs_more a ≡ true → room ≤ n
+last_full (Ok (answer.Event x)) n room q m = absurd (false≢true m)
+last_full (Ok (answer.NeedMore missing)) n room q m = by (ltb n room) refl q
   where
     by : (t : Bool) → ltb n room ≡ t → cond t Read Last ≡ Last → room ≤ n
     by true e p = let z : ◌≡◌ {A = ℕ} 0 1 = cc in absurd_eq z
     by false e p = ltb-false n room e
-last_full answer.Finished n room q m = absurd (false≢true m)
-last_full (answer.Refused r) n room q m = absurd (false≢true m)
+last_full (Ok answer.Finished) n room q m = absurd (false≢true m)
+last_full (Err r) n room q m = absurd (false≢true m)
 
 -- and there is room where a read is due
-read_space : (a : Answer) (n room : ℕ) → next_of a n room ≡ Read → n < room
-read_space (answer.Event x) n room q = let z : ◌≡◌ {A = ℕ} 0 1 = cc in absurd_eq z
-read_space (answer.NeedMore missing) n room q = by (ltb n room) refl q
+read_space : (a : Result Answer Refusal) (n room : ℕ) → next_of a n room ≡ Read → n < room
+read_space (Ok (answer.Event x)) n room q = let z : ◌≡◌ {A = ℕ} 0 1 = cc in absurd_eq z
+read_space (Ok (answer.NeedMore missing)) n room q = by (ltb n room) refl q
   where
     by : (t : Bool) → ltb n room ≡ t → cond t Read Last ≡ Read → n < room
     by true e p = ltb-true n room e
     by false e p = let z : ◌≡◌ {A = ℕ} 0 1 = cc in absurd_eq z
-read_space answer.Finished n room q = let z : ◌≡◌ {A = ℕ} 0 1 = cc in absurd_eq z
-read_space (answer.Refused r) n room q = let z : ◌≡◌ {A = ℕ} 0 1 = cc in absurd_eq z
+read_space (Ok answer.Finished) n room q = let z : ◌≡◌ {A = ℕ} 0 1 = cc in absurd_eq z
+read_space (Err r) n room q = let z : ◌≡◌ {A = ℕ} 0 1 = cc in absurd_eq z
 
 -- ---- the invariant is kept
 

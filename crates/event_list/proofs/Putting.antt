@@ -11,12 +11,14 @@ use Rattle.decoder_rules.specs.declared.types.Answer.{Answer}
 use Rattle.event_list.specs.Line.{answer_text, line, most_line, line_out}
 use Rattle.numerals.specs.Puts.{Puts}
 use Rattle.numerals.proofs.Putting.{and_then}
+use Rattle.std.specs.Prelude.{Result}
+use Rattle.decoder_rules.specs.declared.types.Refusal.{Refusal}
 
-pub put_none : (a : Answer) (p : ℕ) {out : List ℕ} → length out < most_line → Gives 0 out (line_out a p out) × (0 ≤ length out)
+pub put_none : (a : Result Answer Refusal) (p : ℕ) {out : List ℕ} → length out < most_line → Gives 0 out (line_out a p out) × (0 ≤ length out)
 unfolding line_out
 put_none a p {out} h = (rw (lt-ltb (length out) most_line h) (record { answer = refl; bytes = refl }), omega arith)
 
-pub put_whole : (a : Answer) (p : ℕ) {r r' : ℕ} {o o₀ o' : List ℕ} → most_line ≤ length o₀
+pub put_whole : (a : Result Answer Refusal) (p : ℕ) {r r' : ℕ} {o o₀ o' : List ℕ} → most_line ≤ length o₀
     → Puts 81 r o o₀ 0 (answer_text a p) → Puts 1 r' o' o r (10 ∷ []) → Gives r' o' (line_out a p o₀) × (r' ≤ length o₀)
 unfolding line_out line
 put_whole a p {r} {r'} {o} {o₀} {o'} h t n =

@@ -10,8 +10,6 @@ use lib.ListN.{length}
 use Rattle.basics.specs.Lists.{filled}
 use Rattle.numerals.specs.Numeral.{digits, places}
 use Rattle.tools.specs.SignedVint.{as_signed_vint}
-use Rattle.tools.specs.declared.vint.Written.{Written}
-use Rattle.tools.specs.declared.vint.Written.TheVariants.{Length}
 use Rattle.table.specs.BenchTable.{bench_entries, bench_parts}
 use Rattle.spec_util.specs.Walk.{open_tag, no_tag}
 use Rattle.spec_util.specs.declared.types.OpenTag.{OpenTag}
@@ -20,14 +18,14 @@ use Rattle.decoder_rules.specs.Record.{fresh, with_open, with_notes}
 use Rattle.decoder_rules.specs.Settings.{allowing}
 use Rattle.decoder_rules.specs.Run.{nothing, cut, event, need_more, finish, refusal, Call, Calls, decode_calls, eof_calls}
 use Rattle.decoder_rules.specs.declared.types.Event.TheVariants.{Start, End, Data}
-use Rattle.decoder_rules.specs.declared.types.Optional.TheVariants.{Number}
-use Rattle.decoder_rules.specs.declared.types.Part.TheVariants.{NoPart}
 use Rattle.decoder_rules.specs.declared.types.TagDecoder.{TagDecoder}
 use Rattle.decoder_rules.proofs.Computing.{rules_compute}
 use Rattle.event_list.specs.Line as lines
 use Rattle.event_list.specs.Whole.{next_answer, ListOf}
 use Rattle.event_list.specs.Computed.{text_lines, listed_from, listed}
 use Rattle.event_list.proofs.Computed.{listed_is_the_list}
+use Rattle.std.specs.Prelude.{None, Ok, Result, Some}
+use Rattle.tools.specs.declared.errors.ToolError.{ToolError}
 
 -- ---- what a call answers and takes
 
@@ -64,7 +62,7 @@ refuses n p = record { told = refusal n p nothing; taken = 0 }
 
 -- 23 for an open master: its start, which is the place, its ID and its size
 abbrev pub cuts : ℕ → ℕ → ℕ → ℕ → Call
-cuts n start x size = record { told = refusal n start (cut (record { start = start; id = Number x; size = Number size; part = NoPart })); taken = 0 }
+cuts n start x size = record { told = refusal n start (cut (record { start = start; id = Some x; size = Some size; part = None })); taken = 0 }
 
 -- ---- the record that is left
 
@@ -106,7 +104,7 @@ done_unsettled_at d p = with_notes d p false true
 pub data Outcome : Type 0 where
   ran : List Call → List Call → TagDecoder → List Call → TagDecoder → Outcome
   printed : Bool × List ℕ → Outcome
-  wrote : Written × List ℕ → Outcome
+  wrote : Result ℕ ToolError × List ℕ → Outcome
 
 -- calls of `decode`, and then those of the end of input after them and, alone, from the first call on
 abbrev pub ran_as : Calls → Calls → Calls → Outcome
@@ -137,7 +135,7 @@ abbrev pub signed : ℤ → Outcome
 signed z = wrote (as_signed_vint z (0 ∷ 0 ∷ []))
 
 abbrev pub writes : ℕ → List ℕ → Outcome
-writes n bytes = wrote (Length n, bytes)
+writes n bytes = wrote (Ok n, bytes)
 
 -- D1's bytes, and what the lister prints of them
 abbrev pub d1 : List ℕ

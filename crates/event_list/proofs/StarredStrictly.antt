@@ -8,7 +8,6 @@ use lib.ListN.{length}
 use Rattle.basics.specs.Lists.{filled}
 use Rattle.table.specs.BenchTable.{bench_entries, bench_parts}
 use Rattle.table.specs.Check.{check_table}
-use Rattle.table.specs.declared.types.Checked.TheVariants.{Passed}
 use Rattle.table.proofs.Computing.{table_computes}
 use Rattle.spec_util.specs.Walk.{no_tag}
 use Rattle.spec_util.specs.declared.types.OpenTag.{OpenTag}
@@ -22,6 +21,7 @@ use Rattle.event_list.specs.Line as lines
 use Rattle.event_list.specs.Whole.{next_answer}
 use Rattle.event_list.specs.Computed.{text_lines, listed_from}
 use Rattle.event_list.proofs.Starred.{starts, ends, unsigned, text, raw, asks_for_more, finishes, refuses, sized, unsized, having, done_at, Outcome, ran_as, gives, lists, prints, d1, d1_lines}
+use Rattle.std.specs.Prelude.{Ok}
 
 -- ---- the records
 
@@ -67,7 +67,7 @@ abbrev pub nested : TagDecoder → List ℕ → Outcome
 nested d s = lent_with nested_entries nested_parts d s
 
 -- the table check passes it
-pub nested_passes : check_table nested_entries nested_parts ≡ Passed
+pub nested_passes : check_table nested_entries nested_parts ≡ Ok tt
 unfolding table_computes
 nested_passes = refl
 

@@ -20,6 +20,8 @@ use Rattle.tag_decoder_laws.proofs.Finishing.{eof_asks_no_more}
 use Rattle.table.specs.BenchTable.{bench_entries, bench_parts}
 use Rattle.event_list.specs.Reading.{listing, unread, called, next_of, call_once}
 use Rattle.event_list.specs.declared.types.Next.TheVariants.{Read}
+use Rattle.std.specs.Prelude.{Err, Ok, Result}
+use Rattle.decoder_rules.specs.declared.types.Refusal.{Refusal}
 
 -- the call that is due takes no more than it was lent
 pub call_takes : (over : Bool) (d : TagDecoder) (s : List ℕ) → Octets s → (called over d s).taken ≤ length s
@@ -41,11 +43,11 @@ unfolding called
 over_asks_no_more d s = eof_asks_no_more bench_entries bench_parts d s
 
 -- a read is due only where more is asked for
-pub reads_on : (a : Answer) (n room : ℕ) → next_of a n room ≡ Read → needs_more a ≡ true
-reads_on (answer.Event e) n room q = let z : ◌≡◌ {A = ℕ} 0 1 = cc in absurd_eq z
-reads_on (answer.NeedMore missing) n room q = refl
-reads_on answer.Finished n room q = let z : ◌≡◌ {A = ℕ} 0 1 = cc in absurd_eq z
-reads_on (answer.Refused r) n room q = let z : ◌≡◌ {A = ℕ} 0 1 = cc in absurd_eq z
+pub reads_on : (a : Result Answer Refusal) (n room : ℕ) → next_of a n room ≡ Read → needs_more a ≡ true
+reads_on (Ok (answer.Event e)) n room q = let z : ◌≡◌ {A = ℕ} 0 1 = cc in absurd_eq z
+reads_on (Ok (answer.NeedMore missing)) n room q = refl
+reads_on (Ok answer.Finished) n room q = let z : ◌≡◌ {A = ℕ} 0 1 = cc in absurd_eq z
+reads_on (Err r) n room q = let z : ◌≡◌ {A = ℕ} 0 1 = cc in absurd_eq z
 
 -- so once the input has ended nothing is read
 pub no_read_after_end : (d : TagDecoder) (from upto : ℕ) (b : List ℕ) → (call_once (listing d from upto true) b).next ≡ Read → ⊥

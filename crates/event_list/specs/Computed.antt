@@ -1,5 +1,5 @@
 -- The list of a whole input, computed; and lines of text, so that a list can be written down as it is printed.
-use Rattle.std.specs.Prelude.{ℕ, zero, suc, Bool, true, false, List, [], ◌∷◌, ◌++◌, drop}
+use Rattle.std.specs.Prelude.{ℕ, zero, suc, Bool, true, false, List, [], ◌∷◌, ◌++◌, drop, Err, Ok, Result}
 use Prim.Native.String.{String}
 use Rattle.decoder_rules.specs.declared.types.Answer.{Answer}
 use Rattle.decoder_rules.specs.declared.types.Answer.TheVariants as answer
@@ -8,6 +8,7 @@ use Rattle.texts.specs.Ascii.{ascii}
 use Rattle.event_list.specs.Line.{line}
 use Rattle.event_list.specs.Reading.{begun}
 use Rattle.event_list.specs.Whole.{next_answer}
+use Rattle.decoder_rules.specs.declared.types.Refusal.{Refusal}
 
 -- lines of text, a newline after each
 unfoldable pub text_lines : List String → List ℕ
@@ -15,11 +16,11 @@ text_lines [] = []
 text_lines (s ∷ l) = ascii s ++ (10 ∷ text_lines l)
 
 -- a line, and behind an event's the list of what follows it: whether it comes to an end, and its text
-abbrev pub with_others : Answer → List ℕ → (Unit {0} → Bool × List ℕ) → Bool × List ℕ
-with_others (answer.Event e) text others = ((others tt).0, text ++ (others tt).1)
-with_others (answer.NeedMore missing) text others = (true, text)
-with_others answer.Finished text others = (true, text)
-with_others (answer.Refused r) text others = (true, text)
+abbrev pub with_others : Result Answer Refusal → List ℕ → (Unit {0} → Bool × List ℕ) → Bool × List ℕ
+with_others (Ok (answer.Event e)) text others = ((others tt).0, text ++ (others tt).1)
+with_others (Ok (answer.NeedMore missing)) text others = (true, text)
+with_others (Ok answer.Finished) text others = (true, text)
+with_others (Err r) text others = (true, text)
 
 -- at most n lines, from the next answer r on, with s still to come
 unfoldable pub listed_from : ℕ → ℕ → Decoded → List ℕ → Bool × List ℕ

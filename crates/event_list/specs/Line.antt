@@ -1,7 +1,7 @@
 -- Document 01, "The bench table and its records": what the event lister prints for an answer. "Kind, ID in hex, offset;
 -- U and I then the value, D (float) 16 hex digits, T, B, R begin and end. Z is the finish at a position, `X n p` a
 -- refusal, `M p` an element larger than its 4,096-byte buffer". The numbers are ASCII codes.
-use Rattle.std.specs.Prelude.{ℕ, cond, List, [], ◌∷◌, ◌++◌, ltb, length, drop}
+use Rattle.std.specs.Prelude.{ℕ, cond, List, [], ◌∷◌, ◌++◌, ltb, length, drop, Err, Ok, Result}
 use Rattle.tag_parse.specs.declared.types.Range.{Range}
 use Rattle.tag_parse.specs.declared.types.TagValue.{TagValue}
 use Rattle.tag_parse.specs.declared.types.TagValue.TheVariants.{UnsignedInt, Integer, Utf8, Binary, Float, Raw}
@@ -58,14 +58,14 @@ unfoldable pub position_text : ℕ → ℕ → List ℕ
 position_text letter p = (letter ∷ []) ++ field (decimal p)
 
 -- an answer, with the decoder at position p; need more is listed only where the buffer is full
-unfoldable pub answer_text : Answer → ℕ → List ℕ
-answer_text (answer.Event e) p = event_text e
-answer_text (answer.NeedMore missing) p = position_text 77 p
-answer_text answer.Finished p = position_text 90 p
-answer_text (answer.Refused r) p = refusal_text r
+unfoldable pub answer_text : Result Answer Refusal → ℕ → List ℕ
+answer_text (Ok (answer.Event e)) p = event_text e
+answer_text (Ok (answer.NeedMore missing)) p = position_text 77 p
+answer_text (Ok answer.Finished) p = position_text 90 p
+answer_text (Err r) p = refusal_text r
 
 -- the line of an answer, with the decoder at position p: its text and a newline
-unfoldable pub line : Answer → ℕ → List ℕ
+unfoldable pub line : Result Answer Refusal → ℕ → List ℕ
 line a p = answer_text a p ++ (10 ∷ [])
 
 -- the most bytes that a line has: a letter, an ID of 16 digits and three numbers of 20, each after a space, and the
@@ -75,5 +75,5 @@ most_line = 82
 
 -- what a call answers that is lent the bytes out: the line's length, and the line at their front, the others as they
 -- were; 0 and nothing written where fewer than `most_line` are lent
-unfoldable pub line_out : Answer → ℕ → List ℕ → ℕ × List ℕ
+unfoldable pub line_out : Result Answer Refusal → ℕ → List ℕ → ℕ × List ℕ
 line_out a p out = cond (ltb (length out) most_line) (0, out) (length (line a p), line a p ++ drop (length (line a p)) out)

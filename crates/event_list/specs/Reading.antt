@@ -1,6 +1,6 @@
 -- What the lister does with its buffer b between two reads, and what it does after a call: print a line and go on,
 -- print the last line, or read more.
-use Rattle.std.specs.Prelude.{ℕ, ◌+◌, ◌-◌, min, Bool, true, false, cond, List, ◌++◌, ltb, eqb, ℤ, pos, negsuc, length, take, drop}
+use Rattle.std.specs.Prelude.{ℕ, ◌+◌, ◌-◌, min, Bool, true, false, cond, List, ◌++◌, ltb, eqb, ℤ, pos, negsuc, length, take, drop, Err, Ok, Result}
 use Rattle.decoder_rules.specs.Record.{fresh}
 use Rattle.decoder_rules.specs.Settings.{reading}
 use Rattle.decoder_rules.specs.Moving.{decode}
@@ -14,6 +14,7 @@ use Rattle.event_list.specs.declared.types.Listing.{Listing}
 use Rattle.event_list.specs.declared.types.Next.{Next}
 use Rattle.event_list.specs.declared.types.Next.TheVariants.{Line, Last, Read}
 use Rattle.event_list.specs.declared.types.CallResult.{CallResult}
+use Rattle.decoder_rules.specs.declared.types.Refusal.{Refusal}
 
 -- what is kept: the decoder, from where and up to where the buffer is unread, and whether the input has ended
 abbrev pub listing : TagDecoder → ℕ → ℕ → Bool → Listing
@@ -53,11 +54,11 @@ called ended d s = cond ended (decode_eof bench_entries bench_parts d s) (decode
 
 -- what is done after an answer, with n bytes unread in a buffer of so many: need more asks for a read where the buffer
 -- has room; with every byte of it unread the element is larger than the buffer. "X and M end the list", and so does Z
-abbrev pub next_of : Answer → ℕ → ℕ → Next
-next_of (answer.Event e) n room = Line
-next_of (answer.NeedMore missing) n room = cond (ltb n room) Read Last
-next_of answer.Finished n room = Last
-next_of (answer.Refused r) n room = Last
+abbrev pub next_of : Result Answer Refusal → ℕ → ℕ → Next
+next_of (Ok (answer.Event e)) n room = Line
+next_of (Ok (answer.NeedMore missing)) n room = cond (ltb n room) Read Last
+next_of (Ok answer.Finished) n room = Last
+next_of (Err r) n room = Last
 
 -- what follows from the answer r to a call on the unread bytes
 abbrev pub call_result : Listing → List ℕ → Decoded → CallResult

@@ -1,4 +1,4 @@
-// The event lister's work on slices: what is printed for an answer, and what is done with the buffer between two reads.
+//! The event lister's work on slices: what is printed for an answer, and what is done with the buffer between two reads.
 #![tactic(auto)]
 
 pub mod lines;

@@ -1,4 +1,4 @@
-// The line of an answer: document 01's list, a line for each event, and one for its end.
+//! The line of an answer: a list has a line for each event, and one for its end.
 
 ghost use Rattle.std.specs.Prelude.{◌≡◌, ◌++◌, ◌∷◌, [], ◌+◌, ◌≤◌, length};
 ghost use Rattle.tools.specs.Answers.{Gives};
@@ -11,7 +11,7 @@ use decoder_rules::types::{Answer, Event, Refusal};
 use numerals::{put, put_decimal, put_hex, put_hex16, put_signed};
 use tag_parse::types::{Range, TagValue};
 
-// No line is longer.
+/// No line is longer.
 pub const MOST_LINE: usize = 82;
 
 // A number in decimal, after a space.
@@ -140,21 +140,21 @@ fn put_position(letter: u8, position: u64, out: &mut [u8]) -> usize
 }
 
 // An answer, with the decoder at a position.
-fn put_answer(answer: Answer, position: u64, out: &mut [u8]) -> usize
+fn put_answer(answer: Result<Answer, Refusal>, position: u64, out: &mut [u8]) -> usize
     requires { 81 ≤ length out.old }
     ensures { Puts 81 result out.new out.old 0 (answer_text answer position) }
 {
     match answer {
-        Answer::Event(e) => put_event(e, out),
-        Answer::NeedMore { .. } => put_position(b'M', position, out),
-        Answer::Finished => put_position(b'Z', position, out),
-        Answer::Refused(r) => put_refusal(r, out),
+        Ok(Answer::Event(e)) => put_event(e, out),
+        Ok(Answer::NeedMore { .. }) => put_position(b'M', position, out),
+        Ok(Answer::Finished) => put_position(b'Z', position, out),
+        Err(r) => put_refusal(r, out),
     }
 }
 
-// The line of an answer, with the decoder at a position, at the front of the lent bytes: its length, or 0 where fewer
-// than MOST_LINE bytes are lent.
-pub fn put_line(answer: Answer, position: u64, out: &mut [u8]) -> usize
+/// The line of an answer, with the decoder at a position, at the front of the lent bytes: its length, or 0 where fewer
+/// than MOST_LINE bytes are lent.
+pub fn put_line(answer: Result<Answer, Refusal>, position: u64, out: &mut [u8]) -> usize
     ensures { Gives result out.new (line_out answer position out.old) × (result ≤ length out.old) }
 {
     if out.len() < MOST_LINE {

@@ -1,8 +1,8 @@
-// What the lister keeps from one call to the next, and what a call tells it to do.
+//! What the lister keeps from one call to the next, and what a call tells it to do.
 
-use decoder_rules::types::{Answer, TagDecoder};
+use decoder_rules::types::{Answer, Refusal, TagDecoder};
 
-// The unread bytes are those of the buffer from `from` up to `upto`; `ended` once a read has given nothing.
+/// The unread bytes are those of the buffer from `from` up to `upto`; `ended` once a read has given nothing.
 #[derive(Clone, Copy)]
 pub struct Listing {
     pub decoder: TagDecoder,
@@ -11,21 +11,21 @@ pub struct Listing {
     pub ended: bool,
 }
 
-// What is to be done after a call.
-#[derive(Clone, Copy)]
+/// What is to be done after a call.
+#[derive(Clone, Copy, Debug, PartialEq, Eq)]
 pub enum Next {
-    // print the answer's line and go on
+    /// Print the answer's line and go on.
     Line,
-    // print the answer's line, the last
+    /// Print the answer's line, the last.
     Last,
-    // read more; nothing is printed
+    /// Read more; nothing is printed.
     Read,
 }
 
-// What one call answered, what is to be done after it, and what is kept for the next.
+/// What one call answered, what is to be done after it, and what is kept for the next.
 #[derive(Clone, Copy)]
 pub struct CallResult {
-    pub answer: Answer,
+    pub answer: Result<Answer, Refusal>,
     pub next: Next,
     pub listing: Listing,
 }

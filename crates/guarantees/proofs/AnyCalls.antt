@@ -10,17 +10,9 @@ use Rattle.tools.specs.Bytes.{Octets}
 use Rattle.table.specs.Shape.{good_shape}
 use Rattle.table.specs.Check.{check_table}
 use Rattle.table.specs.Table.{Entry, table_of}
-use Rattle.table.specs.declared.types.Checked.{Checked}
-use Rattle.table.specs.declared.types.Checked.TheVariants.{BadShape, Passed}
 use Rattle.table.proofs.Passed.{passed_gives, answered as shape_of}
 use Rattle.decoder_rules.specs.OneCall.{is_settle, check_record10to12}
 use Rattle.decoder_rules.specs.Deciding.{decide}
-use Rattle.decoder_rules.specs.declared.types.Check.{Check}
-use Rattle.decoder_rules.specs.declared.types.Check.TheVariants.{Pass, Fail}
-use Rattle.decoder_rules.specs.declared.types.Optional.{Optional}
-use Rattle.decoder_rules.specs.declared.types.Optional.TheVariants.{Nothing, Number}
-use Rattle.decoder_rules.specs.declared.types.Note.{Note}
-use Rattle.decoder_rules.specs.declared.types.Note.TheVariants.{NoNote, Settle}
 use Rattle.decoder_rules.specs.declared.types.Settings.{Settings}
 use Rattle.decoder_rules.specs.declared.types.TagDecoder.{TagDecoder}
 use Rattle.basics.proofs.Bools.{cond_yes, cond_no}
@@ -39,14 +31,19 @@ use Rattle.guarantees.proofs.Moves.{settings_linked}
 use Rattle.guarantees.proofs.Steps.{AnswerFacts, Quiet, stack_length, unsettled_waiting, Measured, SettledBy, Batch, decode_called, eof_called}
 use Rattle.guarantees.proofs.ImpliedParentsVisible.{Began, next_settled, note_seen}
 use Rattle.guarantees.proofs.Recovery.{SearchFacts, recover_searched, recover_keeps}
+use Rattle.std.specs.Prelude.{Err, None, Ok, Option, Result, Some, ⊤}
+use Rattle.decoder_rules.specs.declared.types.DecodeError.{DecodeError}
+use Rattle.table.specs.declared.types.Path.{Path}
+use Rattle.table.specs.declared.types.TableError.{TableError}
+use Rattle.table.specs.declared.types.TableError.TheVariants as fault
 
 -- ---- what the check gives
 
-not_bad : (c : Checked) → c ≡ Passed → c ≡ BadShape → ⊥
+not_bad : (c : Result ⊤ TableError) → c ≡ Ok tt → c ≡ Err fault.BadShape → ⊥
 not_bad c e f = let z : ◌≡◌ {A = ℕ} 0 1 = cc in omega arith
 
 -- a table that the check passes has a good shape
-pub good_shape_lem : (es ps : List ℕ) → check_table es ps ≡ Passed → good_shape es ps ≡ true
+pub good_shape_lem : (es ps : List ℕ) → check_table es ps ≡ Ok tt → good_shape es ps ≡ true
 good_shape_lem es ps e = shape_of es ps (not_bad (check_table es ps) e)
 
 -- ---- one call
@@ -95,7 +92,7 @@ pub record After (es ps : List ℕ) (d : TagDecoder) (starts : List Started) (le
   -- and so is the mode
   pub mode : (next es ps d c).settings.strict ≡ mode_after c d.settings.strict
 
-module _ (es ps : List ℕ) (checked : check_table es ps ≡ Passed) (d : TagDecoder) (starts : List Started) (left : List ℕ) (p : ℕ)
+module _ (es ps : List ℕ) (checked : check_table es ps ≡ (Ok tt)) (d : TagDecoder) (starts : List Started) (left : List ℕ) (p : ℕ)
     (k : Tied (table_of es ps) d starts left p) where
   set_tied : (s : Settings) → Tied (table_of es ps) (with_settings d s) starts left (p + 0)
   unfolding with_settings
@@ -104,19 +101,19 @@ module _ (es ps : List ℕ) (checked : check_table es ps ≡ Passed) (d : TagDec
       subst (Tied (table_of es ps) (with_settings d s) starts left) z
       (record { linked = settings_linked (table_of es ps) d starts left p k.linked s; finished = k.finished; full = k.full; batch = k.batch })
 
-  limited : (n : Optional) → Tied (table_of es ps) (limited_to d n) starts left (p + 0)
-  limited Nothing = set_tied (with_greatest d.settings false 0)
-  limited (Number n) = set_tied (with_greatest d.settings true n)
+  limited : (n : Option ℕ) → Tied (table_of es ps) (limited_to d n) starts left (p + 0)
+  limited None = set_tied (with_greatest d.settings false 0)
+  limited (Some n) = set_tied (with_greatest d.settings true n)
 
-  same_test : (n : Optional) → not (limited_to d n).settings.allow_oversized ≡ not d.settings.allow_oversized
+  same_test : (n : Option ℕ) → not (limited_to d n).settings.allow_oversized ≡ not d.settings.allow_oversized
   unfolding with_settings
-  same_test Nothing = refl
-  same_test (Number n) = refl
+  same_test None = refl
+  same_test (Some n) = refl
 
-  same_mode : (n : Optional) → (limited_to d n).settings.strict ≡ d.settings.strict
+  same_mode : (n : Option ℕ) → (limited_to d n).settings.strict ≡ d.settings.strict
   unfolding with_settings
-  same_mode Nothing = refl
-  same_mode (Number n) = refl
+  same_mode None = refl
+  same_mode (Some n) = refl
 
   set_test : (ids hierarchy oversized : Bool) → not (allowing d ids hierarchy oversized).settings.allow_oversized ≡ test_after (allow ids hierarchy oversized) (not d.settings.allow_oversized)
   unfolding with_settings
@@ -146,9 +143,9 @@ module _ (es ps : List ℕ) (checked : check_table es ps ≡ Passed) (d : TagDec
       go (decide es ps d s).note
       (decide_facts es ps (good_shape_lem es ps checked) (passed_gives es ps checked) d s byte k.linked.masters (opens-length d k.linked.arrays k.linked.good.open_count) k.linked.good).note
     where
-      go : (n : Note) → NoteFacts ps (table_of es ps) d n → implied_by ps n ≡ []
-      go NoNote f = refl
-      go (Settle path) f = absurd (true≢false (sym u ∙ f.unsettled))
+      go : (n : Option Path) → NoteFacts ps (table_of es ps) d n → implied_by ps n ≡ []
+      go None f = refl
+      go (Some path) f = absurd (true≢false (sym u ∙ f.unsettled))
 
   -- a call on a settled record implies no parent
   pub settled_implies_none : (c : Call) → Octets (lent c) → d.settled ≡ true → implied_by ps (note_of es ps d c) ≡ []
@@ -157,9 +154,9 @@ module _ (es ps : List ℕ) (checked : check_table es ps ≡ Passed) (d : TagDec
   settled_implies_none (ending s) byte u = decided s byte u
   settled_implies_none (recovering s) byte u = go (check_record10to12 es ps d (length s))
     where
-      go : (x : Check) → implied_by ps (search_note_or ps (table_of es ps) d s x) ≡ []
-      go Pass = ap (implied_by ps) (settled_before (table_of es ps) d s _ u)
-      go (Fail e) = refl
+      go : (x : Result ⊤ DecodeError) → implied_by ps (search_note_or ps (table_of es ps) d s x) ≡ []
+      go (Ok _) = ap (implied_by ps) (settled_before (table_of es ps) d s _ u)
+      go (Err e) = refl
   settled_implies_none (allow ids hierarchy oversized) byte u = refl
   settled_implies_none (strictly b) byte u = refl
   settled_implies_none (limit n) byte u = refl
@@ -175,7 +172,7 @@ record Known (es ps : List ℕ) (cs : List Call) : Type 0 where
   settled : (record_after es ps cs).settled ≡ has_settled (table_of es ps) (history es ps cs)
   mode : (record_after es ps cs).settings.strict ≡ is_strict_after (history es ps cs)
 
-module _ (es ps : List ℕ) (checked : check_table es ps ≡ Passed) (cs : List Call) (k : Known es ps cs) where
+module _ (es ps : List ℕ) (checked : check_table es ps ≡ (Ok tt)) (cs : List Call) (k : Known es ps cs) where
   began : (record_after es ps cs).settled ≡ false → Began (record_after es ps cs)
   began u =
       let d = record_after es ps cs in
@@ -219,9 +216,9 @@ module _ (es ps : List ℕ) (checked : check_table es ps ≡ Passed) (cs : List 
           (sym k.settled ∙ e)
       go false e =
           ap (λ (b : Bool). b || is_settle (note_of es ps (record_after es ps cs) c)) k.settled
-          ∙ ap (λ (x : Note). has_settled (table_of es ps) (history es ps cs) || is_settle x) (told_note_lem e c)
+          ∙ ap (λ (x : Option Path). has_settled (table_of es ps) (history es ps cs) || is_settle x) (told_note_lem e c)
 
-known : (es ps : List ℕ) → check_table es ps ≡ Passed → (cs : List Call) → Lent cs → Known es ps cs
+known : (es ps : List ℕ) → check_table es ps ≡ Ok tt → (cs : List Call) → Lent cs → Known es ps cs
 unfolding record_after history starts_open parents_left position has_settled is_strict_after Lent
 known es ps checked [] l = record { tied = fresh_tied (table_of es ps); settled = refl; mode = refl }
 known es ps checked (c ∷ cs) l =
@@ -230,21 +227,21 @@ known es ps checked (c ∷ cs) l =
     record { tied = a.tied; settled = settled_next es ps checked cs k c; mode = a.mode ∙ ap (mode_after c) k.mode }
 
 -- after any calls the record is tied to what a caller can tell
-pub tied_after : (es ps : List ℕ) → check_table es ps ≡ Passed → (cs : List Call) → Lent cs
+pub tied_after : (es ps : List ℕ) → check_table es ps ≡ Ok tt → (cs : List Call) → Lent cs
     → Tied (table_of es ps) (record_after es ps cs) (starts_open (table_of es ps) (history es ps cs)) (parents_left ps (table_of es ps) (history es ps cs)) (position (history es ps cs))
 tied_after es ps checked cs l = (known es ps checked cs l).tied
 
 -- the parents that a call after any calls implies are those that a caller can tell
-pub parents_after : (es ps : List ℕ) → check_table es ps ≡ Passed → (cs : List Call) → Lent cs → (c : Call) → Octets (lent c)
+pub parents_after : (es ps : List ℕ) → check_table es ps ≡ Ok tt → (cs : List Call) → Lent cs → (c : Call) → Octets (lent c)
     → implied_by ps (note_of es ps (record_after es ps cs) c) ≡ seen_parents ps (table_of es ps) (history es ps cs) (lent c) (response_to es ps (record_after es ps cs) c)
 parents_after es ps checked cs l c byte = parents_seen es ps checked cs (known es ps checked cs l) c byte
 
 -- after any calls the record has settled where a caller can tell so
-pub settled_after : (es ps : List ℕ) → check_table es ps ≡ Passed → (cs : List Call) → Lent cs → (record_after es ps cs).settled ≡ has_settled (table_of es ps) (history es ps cs)
+pub settled_after : (es ps : List ℕ) → check_table es ps ≡ Ok tt → (cs : List Call) → Lent cs → (record_after es ps cs).settled ≡ has_settled (table_of es ps) (history es ps cs)
 settled_after es ps checked cs l = (known es ps checked cs l).settled
 
 -- after any calls reading is strict where a caller can tell so
-pub mode_after_lem : (es ps : List ℕ) → check_table es ps ≡ Passed → (cs : List Call) → Lent cs → (record_after es ps cs).settings.strict ≡ is_strict_after (history es ps cs)
+pub mode_after_lem : (es ps : List ℕ) → check_table es ps ≡ Ok tt → (cs : List Call) → Lent cs → (record_after es ps cs).settings.strict ≡ is_strict_after (history es ps cs)
 mode_after_lem es ps checked cs l = (known es ps checked cs l).mode
 
 -- so the promises hold of the last call
@@ -256,7 +253,7 @@ promised_after es ps cs c r = after_these es ps r.checked cs (known es ps r.chec
 -- ---- the child-size test
 
 -- after any calls the child-size test is on where the calls say so
-pub test_after_lem : (es ps : List ℕ) → check_table es ps ≡ Passed → (cs : List Call) → Lent cs → not (record_after es ps cs).settings.allow_oversized ≡ child_test_on cs
+pub test_after_lem : (es ps : List ℕ) → check_table es ps ≡ Ok tt → (cs : List Call) → Lent cs → not (record_after es ps cs).settings.allow_oversized ≡ child_test_on cs
 unfolding record_after child_test_on Lent
 test_after_lem es ps checked [] l = refl
 test_after_lem es ps checked (c ∷ cs) l =

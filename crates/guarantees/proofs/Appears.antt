@@ -17,7 +17,6 @@ use Rattle.tools.proofs.Computing.{numbers_compute}
 use Rattle.table.specs.Check.{check_table, allowed_id, is_id, only_ids}
 use Rattle.table.specs.Passed.{at}
 use Rattle.table.specs.Table.{Entry, table_of, entry_for, data_type_of, path_of, path_ids, is_master, is_typed}
-use Rattle.table.specs.declared.types.Checked.TheVariants.{Passed}
 use Rattle.table.specs.declared.types.PathPart.{PathPart}
 use Rattle.table.specs.declared.types.PathPart.TheVariants.{Id, Global}
 use Rattle.table.specs.declared.types.TagDataType.TheVariants.{Master, UnsignedInt}
@@ -45,6 +44,7 @@ use Rattle.decoder_rules.proofs.MovesKeepGoodState.{fresh_good}
 use Rattle.guarantees.specs.Appearing.{empty_element, in_parents, empty_event, tells, header_length, calls_in_parents, AppearsInParents, Appears}
 use Rattle.guarantees.proofs.AnyCalls.{good_shape_lem}
 use Rattle.guarantees.proofs.InPlace.{header_with, ids_of, Calm, Ready, Tells, element_told, ids_length, Before, placed, ready, Opens, master_told}
+use Rattle.std.specs.Prelude.{Ok}
 
 -- a fresh record is calm
 fresh_calm : Calm fresh
@@ -58,13 +58,13 @@ fresh_before t x = record { calm = fresh_calm; masters = λ s. absurd (false≢t
 -- ---- the first element of an input
 
 -- what the check passes has the octets of an ID
-written : (es ps : List ℕ) → check_table es ps ≡ Passed → (x : ℕ) → is_typed (data_type_of (table_of es ps) x) ≡ true → IsId x (element_id_length x) (id_bytes x)
+written : (es ps : List ℕ) → check_table es ps ≡ Ok tt → (x : ℕ) → is_typed (data_type_of (table_of es ps) x) ≡ true → IsId x (element_id_length x) (id_bytes x)
 unfolding is_typed allowed_id
 written es ps checked x typed =
     accepted_octets x
     (typed_allowed (table_of es ps) (passed_gives es ps checked) x (λ u. false≢true (sym (ap is_typed u) ∙ typed)))
 
-module _ (es ps : List ℕ) (checked : check_table es ps ≡ Passed) (x : ℕ) (typed : is_typed (data_type_of (table_of es ps) x) ≡ true) where
+module _ (es ps : List ℕ) (checked : check_table es ps ≡ (Ok tt)) (x : ℕ) (typed : is_typed (data_type_of (table_of es ps) x) ≡ true) where
   -- it is ready to be read, in its place or where nothing settles
   first_ready : Ready (table_of es ps) (noted ps fresh (step7 (table_of es ps) fresh (header_with (table_of es ps) x (element_id_length x) (Known 0)))) x
   unfolding noted every
@@ -109,7 +109,7 @@ module _ (es ps : List ℕ) (d : TagDecoder) (s : List ℕ) {e : Event} {k : ℕ
   unfolding in_a_row
   row_ends = row_goes_on 0
 
-module _ (es ps : List ℕ) (checked : check_table es ps ≡ Passed) (x : ℕ)
+module _ (es ps : List ℕ) (checked : check_table es ps ≡ (Ok tt)) (x : ℕ)
     (typed : is_typed (data_type_of (table_of es ps) x) ≡ true) (ids : only_ids (path_of (table_of es ps) x) ≡ true) where
   -- what stands in the path of x after `before`: a Master whose path that is
   record Parent (before : List PathPart) (y : ℕ) : Type 0 where
@@ -184,11 +184,11 @@ module _ (es ps : List ℕ) (checked : check_table es ps ≡ Passed) (x : ℕ)
 -- ---- every entry
 
 -- each entry of a table that the check passes can appear
-pub appears : (es ps : List ℕ) → check_table es ps ≡ Passed → Appears es ps
+pub appears : (es ps : List ℕ) → check_table es ps ≡ Ok tt → Appears es ps
 appears es ps checked = record {
   alone = λ i h.
       (first_told es ps checked (at t i).id (typed i h)).answer
-      ∙ ap (λ (e : Entry). answer.Event (empty_event e.kind (at t i).id 0 (header_length (at t i).id))) (counts i h);
+      ∙ ap (λ (e : Entry). Ok (answer.Event (empty_event e.kind (at t i).id 0 (header_length (at t i).id)))) (counts i h);
   in_parents_lem = λ i h ids.
       subst (λ (e : Entry). AppearsInParents es ps (record { id = (at t i).id; kind = e.kind; path = e.path; range = e.range })) (counts i h)
       (place_told es ps checked (at t i).id (typed i h) (ap (λ (e : Entry). only_ids e.path) (counts i h) ∙ ids));

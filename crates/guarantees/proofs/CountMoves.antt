@@ -17,8 +17,6 @@ use Rattle.tag_parse.specs.declared.types.EBMLSize.TheVariants.{Known, Unknown}
 use Rattle.decoder_rules.specs.Record.{opens, waits, end_for, no_end, implied, with_open, with_waiting, with_notes, settled_to, with_one_more, counted, opened, ends_from, closed_to, handed_out, size_grown, with_sizes_grown}
 use Rattle.decoder_rules.specs.OneCall.{noted}
 use Rattle.decoder_rules.specs.Moving.{master_at}
-use Rattle.decoder_rules.specs.declared.types.Note.{Note}
-use Rattle.decoder_rules.specs.declared.types.Note.TheVariants.{NoNote, Settle}
 use Rattle.decoder_rules.specs.declared.types.TagDecoder.{TagDecoder}
 use Rattle.decoder_rules.specs.declared.types.WaitingEnd.{WaitingEnd}
 use Rattle.decoder_rules.proofs.Counting.{first_more, counted_top}
@@ -30,6 +28,8 @@ use Rattle.guarantees.proofs.Decided.{NoteFacts}
 use Rattle.basics.proofs.Maps.{map_reversed}
 use Rattle.guarantees.proofs.Steps.{stack_length, unsettled_waiting}
 use Rattle.guarantees.proofs.Tied.{Linked, map_same}
+use Rattle.std.specs.Prelude.{None, Option, Some}
+use Rattle.table.specs.declared.types.Path.{Path}
 
 -- ---- the counts of masters, and of Ends
 
@@ -161,11 +161,11 @@ module _ (t : List Entry) (d : TagDecoder) where
       let n : d.open_count ≡ 0 = sym (stack_length t d starts left p k w) ∙ ap length (k.unsettled u) in
       only_open d w ∙ ap (λ (j : ℕ). map tag_count (reverse (take j d.«open»))) n
 
-  pub noted-counts : {starts : List Started} {left : List ℕ} {p : ℕ} → Linked t d starts left p → (ps : List ℕ) (n : Note) → NoteFacts ps t d n
+  pub noted-counts : {starts : List Started} {left : List ℕ} {p : ℕ} → Linked t d starts left p → (ps : List ℕ) (n : Option Path) → NoteFacts ps t d n
       → counts_in (noted ps d n) ≡ with_implied (implied_by ps n) (counts_in d)
   unfolding noted implied_by settled_to with_open with_notes
-  noted-counts k ps NoNote f = refl
-  noted-counts {starts} {left} {p} k ps (Settle path) f =
+  noted-counts k ps None f = refl
+  noted-counts {starts} {left} {p} k ps (Some path) f =
       let parts = parts_in (parts_of ps) path in
       let ids = map (λ (m : OpenTag). m.id) (reverse (map implied parts)) in
       only_open (settled_to d parts) (unsettled_waiting t d starts left p k f.unsettled)

@@ -11,7 +11,6 @@ use Rattle.table.specs.Shape.{good_shape}
 use Rattle.table.specs.Check.{check_table}
 use Rattle.table.specs.Passed.{PassedTable}
 use Rattle.table.specs.Table.{Entry, table_of}
-use Rattle.table.specs.declared.types.Checked.TheVariants.{Passed}
 use Rattle.table.proofs.Passed.{passed_gives}
 use Rattle.tag_parse.proofs.Headers.{header_sound, header_long}
 use Rattle.decoder_rules.specs.Record.{opens, waits, with_settings, with_open, with_notes, at_position, counted}
@@ -25,13 +24,9 @@ use Rattle.decoder_rules.specs.declared.types.Action.{Action}
 use Rattle.decoder_rules.specs.declared.types.Action.TheVariants as act
 use Rattle.decoder_rules.specs.declared.types.Answer.{Answer}
 use Rattle.decoder_rules.specs.declared.types.Answer.TheVariants as answer
-use Rattle.decoder_rules.specs.declared.types.Check.{Check}
-use Rattle.decoder_rules.specs.declared.types.Check.TheVariants.{Pass, Fail}
 use Rattle.decoder_rules.specs.declared.types.Decoded.{Decoded}
 use Rattle.decoder_rules.specs.declared.types.Event.{Event}
 use Rattle.decoder_rules.specs.declared.types.Event.TheVariants as event
-use Rattle.decoder_rules.specs.declared.types.Optional.{Optional}
-use Rattle.decoder_rules.specs.declared.types.Optional.TheVariants.{Nothing, Number}
 use Rattle.decoder_rules.specs.declared.types.TagDecoder.{TagDecoder}
 use Rattle.decoder_rules.specs.declared.types.WaitingEnd.{WaitingEnd}
 use Rattle.decoder_rules.proofs.Counting.{counted_arrays}
@@ -57,36 +52,39 @@ use Rattle.guarantees.proofs.Steps.{MeasuredEvent, with_note_tied, quiet_none_wa
 use Rattle.guarantees.proofs.Tied.{as_started, parent_of, as_end, named, Linked, Tied}
 use Rattle.guarantees.proofs.CountMoves.{tag_count, end_count, handed_counts, closed_counts, counted-counts, opened-counts, none_yet, grown_counts, noted-counts}
 use Rattle.guarantees.proofs.CountsLookedUp.{LookedUp, told_looked, implied_looked}
+use Rattle.std.specs.Prelude.{Err, None, Ok, Option, Result, Some, ⊤}
+use Rattle.decoder_rules.specs.declared.types.DecodeError.{DecodeError}
+use Rattle.decoder_rules.specs.declared.types.Refusal.{Refusal}
 
 -- ---- a call: l are the counts before its event
 
 -- an End carries the first of them
-abbrev pub EndCounts : Answer → List ℕ → Type 0
-EndCounts (answer.Event (event.Start x o)) l = Unit {0}
-EndCounts (answer.Event (event.End end)) l = end.count ≡ get_or l 0 0
-EndCounts (answer.Event (event.Data x o v)) l = Unit {0}
-EndCounts (answer.NeedMore missing) l = Unit {0}
-EndCounts answer.Finished l = Unit {0}
-EndCounts (answer.Refused r) l = Unit {0}
+abbrev pub EndCounts : Result Answer Refusal → List ℕ → Type 0
+EndCounts (Ok (answer.Event (event.Start x o))) l = Unit {0}
+EndCounts (Ok (answer.Event (event.End end))) l = end.count ≡ get_or l 0 0
+EndCounts (Ok (answer.Event (event.Data x o v))) l = Unit {0}
+EndCounts (Ok (answer.NeedMore missing)) l = Unit {0}
+EndCounts (Ok answer.Finished) l = Unit {0}
+EndCounts (Err r) l = Unit {0}
 
 -- and the record after it holds what the answer leaves of them
-record Counts (l : List ℕ) (a : Answer) (e : TagDecoder) : Type 0 where
+record Counts (l : List ℕ) (a : Result Answer Refusal) (e : TagDecoder) : Type 0 where
   told : EndCounts a l
   left : counts_in e ≡ counts_by_answer a l
 
 module _ (t : List Entry) (d : TagDecoder) (s : List ℕ) {starts : List Started} {left : List ℕ} {p : ℕ} (k : Linked t d starts left p) where
-  move-counts : (a : Action) → ActionApplies d (length s) a → Facts t d s a → Counts (counts_in d) (move d a).answer (move d a).state
+  move-counts : (a : Result Action DecodeError) → ActionApplies d (length s) a → Facts t d s a → Counts (counts_in d) (move d a).answer (move d a).state
   unfolding move counted with_open with_notes
-  move-counts (act.Refuse e) g f = record { told = tt; left = refl }
-  move-counts (act.NeedMore missing) g f = record { told = tt; left = refl }
-  move-counts act.Finish g f = record { told = tt; left = refl }
-  move-counts act.HandOut g f =
+  move-counts (Err e) g f = record { told = tt; left = refl }
+  move-counts (Ok (act.NeedMore missing)) g f = record { told = tt; left = refl }
+  move-counts (Ok act.Finish) g f = record { told = tt; left = refl }
+  move-counts (Ok act.HandOut) g f =
       let o = handed_counts d k.arrays k.good.waiting_count (hands_out d (length s) g) in
       record { told = o.its; left = o.others }
-  move-counts (act.Close n) g f =
+  move-counts (Ok (act.Close n)) g f =
       let o = closed_counts d k.arrays n k.good.open_count f.reading.none_waiting (closes d (length s) n g).0 in
       record { told = o.its; left = o.others }
-  move-counts (act.Start x z len) g f =
+  move-counts (Ok (act.Start x z len)) g f =
       let e = at_position d (d.position + len) in
       let arrays = with_notes_arrays d k.arrays (d.position + len) d.settled d.finished in
       let none = f.reading.none_waiting in
@@ -96,7 +94,7 @@ module _ (t : List Entry) (d : TagDecoder) (s : List ℕ) {starts : List Started
             opened-counts (counted e) (counted_arrays e arrays) (master_at x z d.position len) (none_yet x z d.position len) (start_fits d (length s) x z len g).0 none
             ∙ ap (λ (l : List ℕ). 0 ∷ l) (counted-counts e arrays k.good.open_count none);
       }
-  move-counts (act.Data x v n) g f =
+  move-counts (Ok (act.Data x v n)) g f =
       let e = at_position d (d.position + n) in
       record { told = tt; left = counted-counts e (with_notes_arrays d k.arrays (d.position + n) d.settled d.finished) k.good.open_count f.reading.none_waiting }
 
@@ -154,13 +152,13 @@ module _ (es ps : List ℕ) (shape : good_shape es ps ≡ true) (passed : Passed
       i : ℕ
       i = first_place ps t d s
 
-      go : (c : Check) → check_record10to12 es ps d (length s) ≡ c → counts_in (try_recover es ps d s).state ≡ with_implied (implied_by ps (search_note_or ps t d s c)) (counts_in d)
-      go Pass e =
+      go : (c : Result ⊤ DecodeError) → check_record10to12 es ps d (length s) ≡ c → counts_in (try_recover es ps d s).state ≡ with_implied (implied_by ps (search_note_or ps t d s c)) (counts_in d)
+      go (Ok _) e =
           let facts = note_holds t d (NoteFacts ps t d) tt (λ r h f. step7_facts es ps shape passed r h f d) s (suc i) in
           rw (recovery_is_first es ps d s e)
           (standing-counts (stands_at ps t d s i) i (record_on ps t d s (suc i) i) (on_tidy es ps shape d y s (suc i) i)
           ∙ noted-counts t d k.linked ps _ facts)
-      go (Fail x) e = rw e refl
+      go (Err x) e = rw e refl
 
 -- ---- any calls
 
@@ -175,14 +173,14 @@ pub record NextCounts (l : List ℕ) (x : Response) (e : TagDecoder) : Type 0 wh
   pub told : EndCountsIn x l
   pub left : counts_in e ≡ counts_by x l
 
-limited_counts : (d : TagDecoder) (n : Optional) → counts_in (limited_to d n) ≡ counts_in d
+limited_counts : (d : TagDecoder) (n : Option ℕ) → counts_in (limited_to d n) ≡ counts_in d
 unfolding with_settings
-limited_counts d Nothing = refl
-limited_counts d (Number n) = refl
+limited_counts d None = refl
+limited_counts d (Some n) = refl
 
 -- a call on any record that is tied to what a caller can tell goes on from the counts that the record holds, whatever
 -- they are
-pub next_counts : (es ps : List ℕ) → check_table es ps ≡ Passed → (d : TagDecoder) {starts : List Started} {left : List ℕ} {p : ℕ} → Tied (table_of es ps) d starts left p → Tidy d
+pub next_counts : (es ps : List ℕ) → check_table es ps ≡ Ok tt → (d : TagDecoder) {starts : List Started} {left : List ℕ} {p : ℕ} → Tied (table_of es ps) d starts left p → Tidy d
     → (c : Call) → Octets (lent c) → NextCounts (with_implied (implied_by ps (note_of es ps d c)) (counts_in d)) (response_to es ps d c) (next es ps d c)
 unfolding implied_by with_settings
 next_counts es ps checked d k y (decoding s) byte =
@@ -197,7 +195,7 @@ next_counts es ps checked d k y (allow ids hierarchy oversized) byte = record { 
 next_counts es ps checked d k y (strictly b) byte = record { told = tt; left = refl }
 next_counts es ps checked d k y (limit n) byte = record { told = tt; left = limited_counts d n }
 
-module _ (es ps : List ℕ) (checked : check_table es ps ≡ Passed) where
+module _ (es ps : List ℕ) (checked : check_table es ps ≡ (Ok tt)) where
   -- what a call after any calls tells of the counts, where the record before it holds them
   pub told_from : (cs : List Call) (c : Call) → Lent (c ∷ cs) → counts_in (record_after es ps cs) ≡ child_counts ps (table_of es ps) (history es ps cs)
       → NextCounts (counts_at es ps cs c) (last_response es ps cs c) (record_after es ps (c ∷ cs))
@@ -216,7 +214,7 @@ module _ (es ps : List ℕ) (checked : check_table es ps ≡ Passed) where
   counted_after [] l = refl
   counted_after (c ∷ cs) l = (told_from cs c l (counted_after cs l.1)).left
 
-  end_counts_lem : (cs : List Call) (c : Call) → Lent (c ∷ cs) → (end : WaitingEnd) → Answers es ps cs c (answer.Event (event.End end)) → end.count ≡ get_or (counts_at es ps cs c) 0 0
+  end_counts_lem : (cs : List Call) (c : Call) → Lent (c ∷ cs) → (end : WaitingEnd) → Answers es ps cs c (Ok (answer.Event (event.End end))) → end.count ≡ get_or (counts_at es ps cs c) 0 0
   end_counts_lem cs c l end a = subst (λ (x : Response). EndCountsIn x (counts_at es ps cs c)) a.1 (unfold Lent in (told_from cs c l (counted_after cs l.1)).told)
 
   as_many : (cs : List Call) → Lent cs
@@ -241,7 +239,7 @@ some_named [] [] end m = absurd m
 some_named [] (x ∷ left) end m = omega arith
 some_named (s ∷ starts) left end m = omega arith
 
-module _ (es ps : List ℕ) (checked : check_table es ps ≡ Passed) where
+module _ (es ps : List ℕ) (checked : check_table es ps ≡ (Ok tt)) where
   runs : (cs : List Call) → Lent cs → Runs es ps cs
   runs cs l = record { checked = checked; octets = l }
 
@@ -259,7 +257,7 @@ module _ (es ps : List ℕ) (checked : check_table es ps ≡ Passed) where
   looked_up [] l n h = absurd (omega arith)
   looked_up (c ∷ cs) l n h = told_looked _ _ (implied_looked _ _ _ (none_before cs c l) (looked_up cs l.1)) (last_response es ps cs c) n h
 
-  since_its_start : (cs : List Call) (c : Call) → Lent (c ∷ cs) → (end : WaitingEnd) → Answers es ps cs c (answer.Event (event.End end)) → end.count ≡ children_at es ps cs c
+  since_its_start : (cs : List Call) (c : Call) → Lent (c ∷ cs) → (end : WaitingEnd) → Answers es ps cs c (Ok (answer.Event (event.End end))) → end.count ≡ children_at es ps cs c
   unfolding Lent
   since_its_start cs c l end a =
       let t = table_of es ps in
@@ -298,14 +296,14 @@ module _ (strict : Bool) (t : List Entry) (s : List ℕ) (byte : Octets s) (p : 
 
   -- each element takes at least two bytes
   response_half : (x : Response) → MeasuredResponse strict t s p x → 2 * total (counts_by x l) ≤ p + taken_in x
-  response_half (answered (answer.Event e) n) m = event_half e n m
-  response_half (answered (answer.NeedMore missing) n) m = omega arith
-  response_half (answered answer.Finished n) m = omega arith
-  response_half (answered (answer.Refused r) n) m = omega arith
+  response_half (answered (Ok (answer.Event e)) n) m = event_half e n m
+  response_half (answered (Ok (answer.NeedMore missing)) n) m = omega arith
+  response_half (answered (Ok answer.Finished) n) m = omega arith
+  response_half (answered (Err r) n) m = omega arith
   response_half (searched a n) m = omega arith
   response_half silent m = omega arith
 
-module _ (es ps : List ℕ) (checked : check_table es ps ≡ Passed) where
+module _ (es ps : List ℕ) (checked : check_table es ps ≡ (Ok tt)) where
   at_most_half : (cs : List Call) → Lent cs → 2 * total (child_counts ps (table_of es ps) (history es ps cs)) ≤ position_at es ps cs
   unfolding history child_counts position Lent total
   at_most_half [] l = omega arith

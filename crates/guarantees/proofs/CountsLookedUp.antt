@@ -11,6 +11,7 @@ use Rattle.decoder_rules.specs.declared.types.Event.{Event}
 use Rattle.decoder_rules.specs.declared.types.Event.TheVariants as event
 use Rattle.guarantees.specs.Calls.{Response, answered, searched, silent}
 use Rattle.guarantees.specs.Counts.{child_of_first, counts_by_event, counts_by, with_implied, back_from, back_from_told, since_implied}
+use Rattle.std.specs.Prelude.{Err, Ok}
 
 zeros_at : (l : List ℕ) (n : ℕ) → ◌≡◌ {A = ℕ} (get_or (map (λ x. 0) l ++ []) n 0) 0
 zeros_at [] n = refl
@@ -43,10 +44,10 @@ module _ (l : List ℕ) (look : ℕ → ℕ) (same : LookedUp l look) where
   event_looked (event.Data x o v) (suc n) h = child_looked (suc n) h
 
   pub told_looked : (x : Response) → LookedUp (counts_by x l) (back_from_told x look)
-  told_looked (answered (answer.Event e) n) = event_looked e
-  told_looked (answered (answer.NeedMore missing) n) = same
-  told_looked (answered answer.Finished n) = same
-  told_looked (answered (answer.Refused r) n) = same
+  told_looked (answered (Ok (answer.Event e)) n) = event_looked e
+  told_looked (answered (Ok (answer.NeedMore missing)) n) = same
+  told_looked (answered (Ok answer.Finished) n) = same
+  told_looked (answered (Err r) n) = same
   told_looked (searched a n) = same
   told_looked silent = same
 

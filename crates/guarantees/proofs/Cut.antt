@@ -22,8 +22,6 @@ use Rattle.decoder_rules.specs.declared.types.Answer.{Answer}
 use Rattle.decoder_rules.specs.declared.types.Answer.TheVariants as answer
 use Rattle.decoder_rules.specs.declared.types.Decision.{Decision}
 use Rattle.decoder_rules.specs.declared.types.Decoded.{Decoded}
-use Rattle.decoder_rules.specs.declared.types.Optional.{Optional}
-use Rattle.decoder_rules.specs.declared.types.Optional.TheVariants.{Number}
 use Rattle.decoder_rules.specs.declared.types.TagDecoder.{TagDecoder}
 use Rattle.decoder_rules.proofs.GoodState.{GoodState}
 use Rattle.decoder_rules.proofs.Exits as exit
@@ -40,13 +38,16 @@ use Rattle.guarantees.proofs.Tied.{all_ended, Tied}
 use Rattle.guarantees.proofs.Steps.{with_note_tied, eof_called}
 use Rattle.guarantees.proofs.AnyCalls.{good_shape_lem, tied_after}
 use Rattle.guarantees.proofs.Guarantees.{finish_closes}
+use Rattle.std.specs.Prelude.{Err, Ok, Option, Result, Some}
+use Rattle.decoder_rules.specs.declared.types.DecodeError.{DecodeError}
+use Rattle.decoder_rules.specs.declared.types.Refusal.{Refusal}
 
 -- ---- what is not full has not ended
 
 -- where one Start is not full, not all have ended
 pub not_all_ended : {starts : List Started} {p : ℕ} → NotFull starts p → all_ended p starts ≡ true → ⊥
 not_all_ended {starts} {p} n e =
-    let g : ended_by p (Number n.end) ≡ true = subst (λ (g : Optional). ended_by p g ≡ true) n.known (every_member (λ (m : Started). ended_by p m.end) e n.still_open) in
+    let g : ended_by p (Some n.end) ≡ true = subst (λ (g : Option ℕ). ended_by p g ≡ true) n.known (every_member (λ (m : Started). ended_by p m.end) e n.still_open) in
     omega (arith, leb-true n.end p g, n.beyond)
 
 is_false : (b : Bool) → (b ≡ true → ⊥) → b ≡ false
@@ -56,7 +57,7 @@ is_false false h = refl
 -- where a master of known size is open and not full, then whatever bytes are left the end of input does not answer the
 -- finish, and the record is not finished after it
 pub cut_not_finished : (es ps : List ℕ) (cs : List Call) (s : List ℕ) → Runs es ps (ending s ∷ cs) → NotFull (open_at es ps cs) (position_at es ps cs)
-    → (Answers es ps cs (ending s) answer.Finished → ⊥) × ((record_after es ps (ending s ∷ cs)).finished ≡ false)
+    → (Answers es ps cs (ending s) (Ok answer.Finished) → ⊥) × ((record_after es ps (ending s ∷ cs)).finished ≡ false)
 unfolding Lent record_after
 cut_not_finished es ps cs s run n =
     let c = eof_called es ps (good_shape_lem es ps run.checked) (passed_gives es ps run.checked) (record_after es ps cs) s run.octets.0 _ _ _ (tied_after es ps run.checked cs run.octets.1) in
@@ -64,11 +65,11 @@ cut_not_finished es ps cs s run n =
 
 -- ---- the end of input asks for no more bytes
 
-not_quiet : (a : Answer) → is_quiet a ≡ false → needs_more a ≡ false
-not_quiet (answer.Event e) q = refl
-not_quiet (answer.NeedMore missing) q = absurd (true≢false q)
-not_quiet answer.Finished q = refl
-not_quiet (answer.Refused r) q = refl
+not_quiet : (a : Result Answer Refusal) → is_quiet a ≡ false → needs_more a ≡ false
+not_quiet (Ok (answer.Event e)) q = refl
+not_quiet (Ok (answer.NeedMore missing)) q = absurd (true≢false q)
+not_quiet (Ok answer.Finished) q = refl
+not_quiet (Err r) q = refl
 
 exit_no_more : {es ps : List ℕ} {d : TagDecoder} {s : List ℕ} {r : Decoded} → EofExit es ps d s r → needs_more r.answer ≡ false
 exit_no_more {es} {ps} {d} {s} (end.as_decoded q) = not_quiet (decode es ps d s).answer q
@@ -81,28 +82,28 @@ end_never_waits es ps d s = exit_no_more (eof_exits es ps d s)
 -- ---- the end of input with no byte left
 
 -- a decode call with no byte decides on an End, need more or the finish
-abbrev is_end_or_none : Action → Bool
-is_end_or_none (act.Refuse e) = false
-is_end_or_none (act.NeedMore missing) = true
-is_end_or_none act.Finish = true
-is_end_or_none act.HandOut = true
-is_end_or_none (act.Close k) = true
-is_end_or_none (act.Start x z len) = false
-is_end_or_none (act.Data x v n) = false
+abbrev is_end_or_none : Result Action DecodeError → Bool
+is_end_or_none (Err e) = false
+is_end_or_none (Ok (act.NeedMore missing)) = true
+is_end_or_none (Ok act.Finish) = true
+is_end_or_none (Ok act.HandOut) = true
+is_end_or_none (Ok (act.Close k)) = true
+is_end_or_none (Ok (act.Start x z len)) = false
+is_end_or_none (Ok (act.Data x v n)) = false
 
 -- so where it answers neither need more nor the finish it answers an End
-only_end : (d : TagDecoder) (a : Action) → is_end_or_none a ≡ true → is_quiet (move d a).answer ≡ false → EndOr23 (move d a).answer
+only_end : (d : TagDecoder) (a : Result Action DecodeError) → is_end_or_none a ≡ true → is_quiet (move d a).answer ≡ false → EndOr23 (move d a).answer
 unfolding move
-only_end d (act.Refuse e) f q = absurd (false≢true f)
-only_end d (act.NeedMore missing) f q = absurd (true≢false q)
-only_end d act.Finish f q = absurd (true≢false q)
-only_end d act.HandOut f q = tt
-only_end d (act.Close k) f q = tt
-only_end d (act.Start x z len) f q = absurd (false≢true f)
-only_end d (act.Data x v n) f q = absurd (false≢true f)
+only_end d (Err e) f q = absurd (false≢true f)
+only_end d (Ok (act.NeedMore missing)) f q = absurd (true≢false q)
+only_end d (Ok act.Finish) f q = absurd (true≢false q)
+only_end d (Ok act.HandOut) f q = tt
+only_end d (Ok (act.Close k)) f q = tt
+only_end d (Ok (act.Start x z len)) f q = absurd (false≢true f)
+only_end d (Ok (act.Data x v n)) f q = absurd (false≢true f)
 
 module _ (es ps : List ℕ) (shape : good_shape es ps ≡ true) (d : TagDecoder) (good : GoodState d) (masters : all_masters (table_of es ps) (opens d) ≡ true) where
-  closing_only : (k : ℕ) {a : Action} → Closing (table_of es ps) d k a → is_end_or_none a ≡ true
+  closing_only : (k : ℕ) {a : Result Action DecodeError} → Closing (table_of es ps) d k a → is_end_or_none a ≡ true
   closing_only k (exit.closes e) = refl
   closing_only k (exit.no_master_lem e) = absurd (no_fault (table_of es ps) k (opens d) masters e)
 

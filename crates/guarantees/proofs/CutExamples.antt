@@ -10,14 +10,14 @@ use Rattle.table.specs.BenchTable.{bench_entries, bench_parts}
 use Rattle.decoder_rules.specs.declared.types.Answer.{Answer}
 use Rattle.decoder_rules.specs.declared.types.Answer.TheVariants.{Event, Finished}
 use Rattle.decoder_rules.specs.declared.types.Event.TheVariants.{End}
-use Rattle.decoder_rules.specs.declared.types.Optional.{Optional}
-use Rattle.decoder_rules.specs.declared.types.Optional.TheVariants.{Number}
 use Rattle.guarantees.specs.Calls.{Call, allow, history, Lent}
 use Rattle.guarantees.specs.Promises.{Answers, position_at, at_the_end}
 use Rattle.guarantees.specs.CutRecords.{InOrder, BeginsWithMaster, ever_started, every_known, last_top_end}
 use Rattle.guarantees.proofs.Computing.{history_computes}
 use Rattle.guarantees.proofs.Examples.{lending, d1, bench}
 use Rattle.guarantees.proofs.CutRecords.{bench_cut_records}
+use Rattle.std.specs.Prelude.{Ok, Option, Result, Some}
+use Rattle.decoder_rules.specs.declared.types.Refusal.{Refusal}
 
 -- ---- the records
 
@@ -37,15 +37,15 @@ void = 0xEC ∷ 0x80 ∷ []
 
 -- however these bytes are read in order, no call answers the finish
 abbrev NeverFinishes : List ℕ → Type 0
-NeverFinishes s = (cs : List Call) (c : Call) → Lent (c ∷ cs) → InOrder bench_entries bench_parts s (c ∷ cs) → Answers bench_entries bench_parts cs c Finished → ⊥
+NeverFinishes s = (cs : List Call) (c : Call) → Lent (c ∷ cs) → InOrder bench_entries bench_parts s (c ∷ cs) → Answers bench_entries bench_parts cs c (Ok Finished) → ⊥
 
 -- what the end of input with no byte answers after these calls, where the last element at the top ends, the position,
 -- and whether every Start was of known size
-abbrev ended : List Call → Answer × Optional × ℕ × Bool
+abbrev ended : List Call → Result Answer Refusal × Option ℕ × ℕ × Bool
 ended cs = (at_the_end bench_entries bench_parts cs, last_top_end bench (history bench_entries bench_parts cs), position_at bench_entries bench_parts cs, every_known bench (history bench_entries bench_parts cs))
 
 -- the same of these bytes read to their end, where the calls take as many as this list says
-abbrev read_by : List ℕ → List ℕ → Answer × Optional × ℕ × Bool
+abbrev read_by : List ℕ → List ℕ → Result Answer Refusal × Option ℕ × ℕ × Bool
 read_by taken s = ended (lending taken s [])
 
 -- what is so of these records
@@ -56,24 +56,24 @@ pub record CutExamples : Type 0 where
   -- the calls that read D3 are in order
   pub in_order : InOrder bench_entries bench_parts (take 8 d1) (lending (3 ∷ 2 ∷ 3 ∷ 0 ∷ []) (take 8 d1) [])
   -- D1 whole
-  pub d1_whole : read_by (3 ∷ 2 ∷ 3 ∷ 4 ∷ 0 ∷ 0 ∷ []) d1 ≡ (Finished, Number 12, 12, true)
+  pub d1_whole : read_by (3 ∷ 2 ∷ 3 ∷ 4 ∷ 0 ∷ 0 ∷ []) d1 ≡ (Ok Finished, Some 12, 12, true)
   -- looks whole: no byte at all
-  pub empty : read_by [] [] ≡ (Finished, Number 0, 0, true)
+  pub empty : read_by [] [] ≡ (Ok Finished, Some 0, 0, true)
   -- looks whole: two nights, cut between them
-  pub nights : read_by (3 ∷ 2 ∷ 3 ∷ 4 ∷ 0 ∷ 0 ∷ 3 ∷ 2 ∷ 3 ∷ 4 ∷ 0 ∷ 0 ∷ []) (d1 ++ d1) ≡ (Finished, Number 24, 24, true)
-  pub nights_cut : read_by (3 ∷ 2 ∷ 3 ∷ 4 ∷ 0 ∷ 0 ∷ []) (take 12 (d1 ++ d1)) ≡ (Finished, Number 12, 12, true)
+  pub nights : read_by (3 ∷ 2 ∷ 3 ∷ 4 ∷ 0 ∷ 0 ∷ 3 ∷ 2 ∷ 3 ∷ 4 ∷ 0 ∷ 0 ∷ []) (d1 ++ d1) ≡ (Ok Finished, Some 24, 24, true)
+  pub nights_cut : read_by (3 ∷ 2 ∷ 3 ∷ 4 ∷ 0 ∷ 0 ∷ []) (take 12 (d1 ++ d1)) ≡ (Ok Finished, Some 12, 12, true)
   -- looks whole: a night with a Void after it, cut before the Void
-  pub padded : read_by (3 ∷ 2 ∷ 3 ∷ 4 ∷ 0 ∷ 0 ∷ 2 ∷ []) (d1 ++ void) ≡ (Finished, Number 14, 14, true)
-  pub padded_cut : read_by (3 ∷ 2 ∷ 3 ∷ 4 ∷ 0 ∷ 0 ∷ []) (take 12 (d1 ++ void)) ≡ (Finished, Number 12, 12, true)
+  pub padded : read_by (3 ∷ 2 ∷ 3 ∷ 4 ∷ 0 ∷ 0 ∷ 2 ∷ []) (d1 ++ void) ≡ (Ok Finished, Some 14, 14, true)
+  pub padded_cut : read_by (3 ∷ 2 ∷ 3 ∷ 4 ∷ 0 ∷ 0 ∷ []) (take 12 (d1 ++ void)) ≡ (Ok Finished, Some 12, 12, true)
   -- looks whole: D1 without its first three bytes, a Feed alone; its Session, implied, has an End at 0 and had no Start
-  pub front_missing : read_by (2 ∷ 3 ∷ 4 ∷ 0 ∷ 0 ∷ []) (drop 3 d1) ≡ (Finished, Number 9, 9, true)
-  pub front_end : read_by (2 ∷ 3 ∷ 4 ∷ 0 ∷ []) (drop 3 d1) ≡ (Event (End (record { id = 0x4E01; offset = 0; count = 1 })), Number 9, 9, true)
+  pub front_missing : read_by (2 ∷ 3 ∷ 4 ∷ 0 ∷ 0 ∷ []) (drop 3 d1) ≡ (Ok Finished, Some 9, 9, true)
+  pub front_end : read_by (2 ∷ 3 ∷ 4 ∷ 0 ∷ []) (drop 3 d1) ≡ (Ok (Event (End (record { id = 0x4E01; offset = 0; count = 1 }))), Some 9, 9, true)
   -- D9, a Start of unknown size: the finish comes past the end of the last element at the top
-  pub unknown_size : read_by (3 ∷ 2 ∷ 0 ∷ 0 ∷ []) d9 ≡ (Finished, Number 4, 5, false)
+  pub unknown_size : read_by (3 ∷ 2 ∷ 0 ∷ 0 ∷ []) d9 ≡ (Ok Finished, Some 4, 5, false)
   -- looks whole: the child-size test off, and a Feed that ends at 7 cut at 5
-  pub test_off : ended (lending (3 ∷ 2 ∷ 0 ∷ 0 ∷ []) oversized (allow false false true ∷ [])) ≡ (Finished, Number 4, 5, true)
+  pub test_off : ended (lending (3 ∷ 2 ∷ 0 ∷ 0 ∷ []) oversized (allow false false true ∷ [])) ≡ (Ok Finished, Some 4, 5, true)
   pub test_off_starts : ever_started bench (history bench_entries bench_parts (lending (3 ∷ 2 ∷ []) oversized (allow false false true ∷ [])))
-      ≡ record { id = 0xA1; offset = 3; end = Number 7 } ∷ record { id = 0x4E01; offset = 0; end = Number 4 } ∷ []
+      ≡ record { id = 0xA1; offset = 3; end = Some 7 } ∷ record { id = 0x4E01; offset = 0; end = Some 4 } ∷ []
 
 begins_8 : BeginsWithMaster bench (take 8 d1 ++ drop 8 d1) 12
 unfolding history_computes

@@ -18,8 +18,6 @@ use Rattle.decoder_rules.specs.EndOfInput.{decode_eof}
 use Rattle.decoder_rules.specs.declared.types.Answer.{Answer}
 use Rattle.decoder_rules.specs.declared.types.Answer.TheVariants as answer
 use Rattle.decoder_rules.specs.declared.types.Event.TheVariants as event
-use Rattle.decoder_rules.specs.declared.types.Optional.{Optional}
-use Rattle.decoder_rules.specs.declared.types.Optional.TheVariants.{Nothing, Number}
 use Rattle.decoder_rules.specs.declared.types.TagDecoder.{TagDecoder}
 use Rattle.decoder_rules.specs.declared.types.WaitingEnd.{WaitingEnd}
 use Rattle.basics.proofs.Bools.{both, and_both}
@@ -34,34 +32,36 @@ use Rattle.guarantees.proofs.AnyCalls.{BatchResponse, promised_after}
 use Rattle.guarantees.proofs.Guarantees.{at_most_32}
 use Rattle.guarantees.proofs.Cut.{cut_is_told}
 use Rattle.guarantees.proofs.Nested.{nested_after, outermost_not_full}
+use Rattle.std.specs.Prelude.{Err, None, Ok, Option, Result, Some}
+use Rattle.decoder_rules.specs.declared.types.Refusal.{Refusal}
 
 -- ---- the outermost of a list
 
-abbrev unknown_end : Optional → Bool
-unknown_end Nothing = true
-unknown_end (Number e) = false
+abbrev unknown_end : Option ℕ → Bool
+unknown_end None = true
+unknown_end (Some e) = false
 
 abbrev all_unknown : List Started → Bool
 all_unknown l = every (λ m. unknown_end m.end) l
 
-none_known : (l : List Started) → outermost_end l ≡ Nothing → all_unknown l ≡ true
+none_known : (l : List Started) → outermost_end l ≡ None → all_unknown l ≡ true
 unfolding outermost_end every
 none_known [] e = refl
 none_known (m ∷ l) e = go (outermost_end l) refl m.end refl e (λ f. none_known l f)
   where
-    go : (g : Optional) → outermost_end l ≡ g → (h : Optional) → m.end ≡ h → first_end g h ≡ Nothing → (outermost_end l ≡ Nothing → all_unknown l ≡ true) → (unknown_end m.end && all_unknown l) ≡ true
-    go Nothing p Nothing q r rest = and_both (ap unknown_end q) (rest p)
-    go Nothing p (Number e) q r rest = let z : ◌≡◌ {A = ℕ} 0 1 = cc in absurd (omega arith)
-    go (Number f) p h q r rest = let z : ◌≡◌ {A = ℕ} 0 1 = cc in absurd (omega arith)
+    go : (g : Option ℕ) → outermost_end l ≡ g → (h : Option ℕ) → m.end ≡ h → first_end g h ≡ None → (outermost_end l ≡ None → all_unknown l ≡ true) → (unknown_end m.end && all_unknown l) ≡ true
+    go None p None q r rest = and_both (ap unknown_end q) (rest p)
+    go None p (Some e) q r rest = let z : ◌≡◌ {A = ℕ} 0 1 = cc in absurd (omega arith)
+    go (Some f) p h q r rest = let z : ◌≡◌ {A = ℕ} 0 1 = cc in absurd (omega arith)
 
-all_unknown_lem : (l : List Started) → all_unknown l ≡ true → outermost_end l ≡ Nothing
+all_unknown_lem : (l : List Started) → all_unknown l ≡ true → outermost_end l ≡ None
 unfolding outermost_end every
 all_unknown_lem [] e = refl
 all_unknown_lem (m ∷ l) e = let b = both (unknown_end m.end) (all_unknown l) e in rw (all_unknown_lem l b.right) (go m.end b.left)
   where
-    go : (g : Optional) → unknown_end g ≡ true → g ≡ Nothing
-    go Nothing h = refl
-    go (Number f) h = absurd (false≢true h)
+    go : (g : Option ℕ) → unknown_end g ≡ true → g ≡ None
+    go None h = refl
+    go (Some f) h = absurd (false≢true h)
 
 parents_unknown : (left : List ℕ) → all_unknown (map parent_of left) ≡ true
 unfolding every
@@ -69,34 +69,34 @@ parents_unknown [] = refl
 parents_unknown (x ∷ left) = parents_unknown left
 
 -- one whose end is beyond p is one of the list that is not full
-pub outermost_member : (l : List Started) (f p : ℕ) → outermost_end l ≡ Number f → p < f → NotFull l p
+pub outermost_member : (l : List Started) (f p : ℕ) → outermost_end l ≡ Some f → p < f → NotFull l p
 unfolding outermost_end
 outermost_member [] f p e h = let z : ◌≡◌ {A = ℕ} 0 1 = cc in absurd (omega arith)
 outermost_member (m ∷ l) f p e h = go (outermost_end l) refl e (λ q. outermost_member l f p q h)
   where
-    go : (g : Optional) → outermost_end l ≡ g → first_end g m.end ≡ Number f → (outermost_end l ≡ Number f → NotFull l p) → NotFull (m ∷ l) p
-    go Nothing q r rest = record { master = m; still_open = Memᴰ.head refl; end = f; known = r; beyond = h }
-    go (Number n) q r rest = let k = rest (q ∙ r) in record { master = k.master; still_open = Memᴰ.tail k.still_open; end = k.end; known = k.known; beyond = k.beyond }
+    go : (g : Option ℕ) → outermost_end l ≡ g → first_end g m.end ≡ Some f → (outermost_end l ≡ Some f → NotFull l p) → NotFull (m ∷ l) p
+    go None q r rest = record { master = m; still_open = Memᴰ.head refl; end = f; known = r; beyond = h }
+    go (Some n) q r rest = let k = rest (q ∙ r) in record { master = k.master; still_open = Memᴰ.tail k.still_open; end = k.end; known = k.known; beyond = k.beyond }
 
 -- an End whose batch is full does not take the outermost Start of known size, where that is not full
-stays : (starts : List Started) (left : List ℕ) (w p f : ℕ) → ended_by p (outermost_end (take (w + 1) (stack starts left))) ≡ true → outermost_end starts ≡ Number f → p < f
-    → outermost_end (drop 1 starts) ≡ Number f
+stays : (starts : List Started) (left : List ℕ) (w p f : ℕ) → ended_by p (outermost_end (take (w + 1) (stack starts left))) ≡ true → outermost_end starts ≡ Some f → p < f
+    → outermost_end (drop 1 starts) ≡ Some f
 unfolding outermost_end
 stays [] left w p f b e h = let z : ◌≡◌ {A = ℕ} 0 1 = cc in absurd (omega arith)
 stays (m ∷ l) left w p f b e h = go (outermost_end l) refl e
   where
-    go : (g : Optional) → outermost_end l ≡ g → first_end g m.end ≡ Number f → outermost_end l ≡ Number f
-    go (Number n) q r = q ∙ r
-    go Nothing q r =
-        let rest : outermost_end (take w (stack l left)) ≡ Nothing =
+    go : (g : Option ℕ) → outermost_end l ≡ g → first_end g m.end ≡ Some f → outermost_end l ≡ Some f
+    go (Some n) q r = q ∙ r
+    go None q r =
+        let rest : outermost_end (take w (stack l left)) ≡ None =
         all_unknown_lem (take w (stack l left)) (every_take (λ o. unknown_end o.end) w (stack l left) (every_append (λ o. unknown_end o.end) l (map parent_of left) (none_known l q) (parents_unknown left))) in
         let b' : ended_by p (first_end (outermost_end (take w (stack l left))) m.end) ≡ true = rw add-one at b in
-        let c : ended_by p (Number f) ≡ true = subst (λ (x : Optional). ended_by p x ≡ true) (ap (λ (x : Optional). first_end x m.end) rest ∙ r) b' in
+        let c : ended_by p (Some f) ≡ true = subst (λ (x : Option ℕ). ended_by p x ≡ true) (ap (λ (x : Option ℕ). first_end x m.end) rest ∙ r) b' in
         absurd (omega (arith, leb-true f p c))
 
 -- the outermost Start of known size that is open has its End only where it is full: at any call that answers an End
-pub outermost_stays : (es ps : List ℕ) (cs : List Call) (c : Call) → Runs es ps (c ∷ cs) → (end : WaitingEnd) (f : ℕ) → Answers es ps cs c (answer.Event (event.End end))
-    → outermost_end (open_at es ps cs) ≡ Number f → position_at es ps cs < f → outermost_end (open_at es ps (c ∷ cs)) ≡ Number f
+pub outermost_stays : (es ps : List ℕ) (cs : List Call) (c : Call) → Runs es ps (c ∷ cs) → (end : WaitingEnd) (f : ℕ) → Answers es ps cs c (Ok (answer.Event (event.End end)))
+    → outermost_end (open_at es ps cs) ≡ Some f → position_at es ps cs < f → outermost_end (open_at es ps (c ∷ cs)) ≡ Some f
 unfolding history starts_open
 outermost_stays es ps cs c run end f a e h =
     let d = next es ps (record_after es ps cs) c in
@@ -115,7 +115,7 @@ eof_takes es ps d = omega (arith, (eof_facts es ps d [] no_octets).within)
 
 -- after these calls the outermost Start of known size that is open ends at f, and the position is p
 pub record CutAt (es ps : List ℕ) (cs : List Call) (f p : ℕ) : Type 0 where
-  pub outermost : outermost_end (open_at es ps cs) ≡ Number f
+  pub outermost : outermost_end (open_at es ps cs) ≡ Some f
   pub place : position_at es ps cs ≡ p
   pub beyond : p < f
 
@@ -123,9 +123,9 @@ told_cut : (es ps : List ℕ) (cs : List Call) (f p : ℕ) → Runs es ps (endin
 told_cut es ps cs f p run k = cut_is_told es ps cs run (outermost_member (open_at es ps cs) f (position_at es ps cs) k.outermost (omega (arith, k.place, k.beyond)))
 
 -- the Starts that are open after it
-open_after : (es ps : List ℕ) (cs : List Call) (a : Answer) → at_the_end es ps cs ≡ a → open_at es ps (ending [] ∷ cs) ≡ after_answer (table_of es ps) [] a (open_at es ps cs)
+open_after : (es ps : List ℕ) (cs : List Call) (a : Result Answer Refusal) → at_the_end es ps cs ≡ a → open_at es ps (ending [] ∷ cs) ≡ after_answer (table_of es ps) [] a (open_at es ps cs)
 unfolding history starts_open
-open_after es ps cs a e = ap (λ (x : Answer). after_answer (table_of es ps) [] x (open_at es ps cs)) e
+open_after es ps cs a e = ap (λ (x : Result Answer Refusal). after_answer (table_of es ps) [] x (open_at es ps cs)) e
 
 still_cut : (es ps : List ℕ) (cs : List Call) (f p : ℕ) → Runs es ps (ending [] ∷ cs) → CutAt es ps cs f p → CutAt es ps (ending [] ∷ cs) f p
 unfolding history position
@@ -138,16 +138,16 @@ still_cut es ps cs f p run k = record {
     near : position_at es ps cs < f
     near = omega (arith, k.place, k.beyond)
 
-    same : (a : Answer) → at_the_end es ps cs ≡ a → last_response es ps cs (ending []) ≡ answered a (decode_eof es ps (record_after es ps cs) []).taken
-    same a e = ap (λ (x : Answer). answered x (decode_eof es ps (record_after es ps cs) []).taken) e
+    same : (a : Result Answer Refusal) → at_the_end es ps cs ≡ a → last_response es ps cs (ending []) ≡ answered a (decode_eof es ps (record_after es ps cs) []).taken
+    same a e = ap (λ (x : Result Answer Refusal). answered x (decode_eof es ps (record_after es ps cs) []).taken) e
 
-    go : (a : Answer) → at_the_end es ps cs ≡ a → EndOr23 a → outermost_end (open_at es ps (ending [] ∷ cs)) ≡ Number f
-    go (answer.Event (event.Start x o)) e h = absurd h
-    go (answer.Event (event.End end)) e h = outermost_stays es ps cs (ending []) run end f (_, same _ e) k.outermost near
-    go (answer.Event (event.Data x o v)) e h = absurd h
-    go (answer.NeedMore missing) e h = absurd h
-    go answer.Finished e h = absurd h
-    go (answer.Refused r) e h = ap outermost_end (open_after es ps cs (answer.Refused r) e) ∙ k.outermost
+    go : (a : Result Answer Refusal) → at_the_end es ps cs ≡ a → EndOr23 a → outermost_end (open_at es ps (ending [] ∷ cs)) ≡ Some f
+    go (Ok (answer.Event (event.Start x o))) e h = absurd h
+    go (Ok (answer.Event (event.End end))) e h = outermost_stays es ps cs (ending []) run end f (_, same _ e) k.outermost near
+    go (Ok (answer.Event (event.Data x o v))) e h = absurd h
+    go (Ok (answer.NeedMore missing)) e h = absurd h
+    go (Ok answer.Finished) e h = absurd h
+    go (Err r) e h = ap outermost_end (open_after es ps cs (Err r) e) ∙ k.outermost
 
 -- ---- the end of input with no byte, again and again
 
@@ -181,7 +181,7 @@ comes_23 : (es ps : List ℕ) (b : ℕ) (cs : List Call) (f p : ℕ) → Runs es
 unfolding outermost_end ending_again
 comes_23 es ps zero cs f p run k h = absurd (none (open_at es ps cs) h k.outermost)
   where
-    none : (l : List Started) → length l ≤ 0 → outermost_end l ≡ Number f → ⊥
+    none : (l : List Started) → length l ≤ 0 → outermost_end l ≡ Some f → ⊥
     none [] h e = let z : ◌≡◌ {A = ℕ} 0 1 = cc in omega arith
     none (m ∷ l) h e = omega arith
 comes_23 es ps (suc b) cs f p run k h =
@@ -195,15 +195,15 @@ comes_23 es ps (suc b) cs f p run k h =
     less [] m e h = rw e (omega arith)
     less (x ∷ l) m e h = rw e (omega arith)
 
-    go : (a : Answer) → at_the_end es ps cs ≡ a → EndOr23 a → (length (open_at es ps (ending [] ∷ cs)) ≤ b → Comes b (ending [] ∷ cs)) → Comes (suc b) cs
-    go (answer.Event (event.Start x o)) e h' rest = absurd h'
-    go (answer.Event (event.End end)) e h' rest =
+    go : (a : Result Answer Refusal) → at_the_end es ps cs ≡ a → EndOr23 a → (length (open_at es ps (ending [] ∷ cs)) ≤ b → Comes b (ending [] ∷ cs)) → Comes (suc b) cs
+    go (Ok (answer.Event (event.Start x o))) e h' rest = absurd h'
+    go (Ok (answer.Event (event.End end))) e h' rest =
         let r = rest (less (open_at es ps cs) (open_at es ps (ending [] ∷ cs)) (open_after es ps cs _ e) h) in
         (suc r.0, omega (arith, r.1), subst (λ (l : List Call). answer_refusal (at_the_end es ps l) ≡ 23) (again_later r.0 cs) r.2)
-    go (answer.Event (event.Data x o v)) e h' rest = absurd h'
-    go (answer.NeedMore missing) e h' rest = absurd h'
-    go answer.Finished e h' rest = absurd h'
-    go (answer.Refused r) e h' rest = (0, omega arith, ap answer_refusal e ∙ h')
+    go (Ok (answer.Event (event.Data x o v))) e h' rest = absurd h'
+    go (Ok (answer.NeedMore missing)) e h' rest = absurd h'
+    go (Ok answer.Finished) e h' rest = absurd h'
+    go (Err r) e h' rest = (0, omega arith, ap answer_refusal e ∙ h')
 
 -- ==== a record cut inside a master of known size does not look whole
 

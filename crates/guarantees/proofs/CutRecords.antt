@@ -4,7 +4,6 @@ use mathlib.Core.Path.{◌≡◌}
 use mathlib.Core.List.{List, ◌∷◌}
 use Rattle.table.specs.BenchTable.{bench_entries, bench_parts}
 use Rattle.table.specs.Check.{check_table}
-use Rattle.table.specs.declared.types.Checked.TheVariants.{Passed}
 use Rattle.table.proofs.Examples.{checks}
 use Rattle.guarantees.specs.Calls.{Call, Lent}
 use Rattle.guarantees.specs.Promises.{Runs}
@@ -14,9 +13,10 @@ use Rattle.guarantees.proofs.InOrder.{finish_reads_all}
 use Rattle.guarantees.proofs.CutRoot.{cut_root, cut_root_unfinished}
 use Rattle.guarantees.proofs.TopLevel.{finish_at_the_end}
 use Rattle.guarantees.proofs.WholeElements.{finished_is_row}
+use Rattle.std.specs.Prelude.{Ok}
 
 -- it holds of every table that the check passes
-pub cut_records : (es ps : List ℕ) → check_table es ps ≡ Passed → CutRecords es ps
+pub cut_records : (es ps : List ℕ) → check_table es ps ≡ Ok tt → CutRecords es ps
 cut_records es ps checked = record {
   cut_root = λ s rest f w some cut cs c l. cut_root es ps s rest f w some cut cs c (runs (c ∷ cs) l);
   cut_root_unfinished = λ s rest f w some cut cs l. cut_root_unfinished es ps s rest f w some cut cs (runs cs l);

@@ -12,7 +12,6 @@ use Rattle.tools.specs.Bytes.{Octets}
 use Rattle.table.specs.Table.{Entry, table_of, data_type_of}
 use Rattle.table.specs.declared.types.TagDataType.TheVariants as type
 use Rattle.tag_parse.specs.Header.{read_header}
-use Rattle.tag_parse.specs.declared.types.ReadHeader.TheVariants as header
 use Rattle.tag_parse.specs.declared.types.TagHeader.{TagHeader}
 use Rattle.tag_parse.specs.declared.types.TagValue.{TagValue}
 use Rattle.tag_parse.specs.declared.types.TagValue.TheVariants as value
@@ -22,7 +21,6 @@ use Rattle.decoder_rules.specs.Settings.{is_finished}
 use Rattle.decoder_rules.specs.declared.types.Answer.{Answer}
 use Rattle.decoder_rules.specs.declared.types.Answer.TheVariants as answer
 use Rattle.decoder_rules.specs.declared.types.Event.TheVariants as event
-use Rattle.decoder_rules.specs.declared.types.Optional.TheVariants.{Number}
 use Rattle.decoder_rules.specs.declared.types.Search.{Search}
 use Rattle.decoder_rules.specs.declared.types.WaitingEnd.{WaitingEnd}
 use Rattle.decoder_rules.proofs.MoveLaws.{decode_finished}
@@ -37,6 +35,9 @@ use Rattle.guarantees.proofs.Cut.{cut_not_finished}
 use Rattle.guarantees.proofs.CutRecord.{outermost_stays, outermost_member}
 use Rattle.guarantees.proofs.FullEnds.{no_search}
 use Rattle.guarantees.proofs.InOrder.{is_element, takes_none, lends_front, lends_no_recovery, within, eof_keeps_finished, limit_keeps_finished}
+use Rattle.std.specs.Prelude.{Err, Ok, Result, Some}
+use Rattle.decoder_rules.specs.declared.types.Refusal.{Refusal}
+use Rattle.tools.specs.declared.status.Status.TheVariants as status
 
 -- ---- the first element is the master
 
@@ -51,10 +52,10 @@ no_master_lem (value.Raw x) e = let z : ◌≡◌ {A = ℕ} 0 1 = cc in absurd_e
 
 module _ (t : List Entry) (s rest : List ℕ) (f : ℕ) (w : BeginsWithMaster t (s ++ rest) f) where
   -- the header that a call at the front reads is that of the whole
-  front : (b v : List ℕ) → Octets b → b ++ v ≡ s → (x : TagHeader) → read_header t b ≡ header.Header x → x ≡ w.its
+  front : (b v : List ℕ) → Octets b → b ++ v ≡ s → (x : TagHeader) → read_header t b ≡ Ok (status.Complete x) → x ≡ w.its
   front b v byte e x r =
       let local : read_header t (b ++ (v ++ rest)) ≡ read_header t b = header_local t b (v ++ rest) (byte 0) (rw r) in
-      let q : header.Header x ≡ header.Header w.its = sym r ∙ sym local ∙ ap (read_header t) (sym (append_assoc b v rest)) ∙ ap (λ (l : List ℕ). read_header t (l ++ rest)) e ∙ w.read in
+      let q : Ok (status.Complete x) ≡ Ok (status.Complete w.its) = sym r ∙ sym local ∙ ap (read_header t) (sym (append_assoc b v rest)) ∙ ap (λ (l : List ℕ). read_header t (l ++ rest)) e ∙ w.read in
       cc
 
   -- an element that a call at the front answers
@@ -63,12 +64,12 @@ module _ (t : List Entry) (s rest : List ℕ) (f : ℕ) (w : BeginsWithMaster t 
     its = front b v byte e g.heads.its g.heads.is_read
 
     -- ends where the master does
-    first_end_lem : declared_end t o b ≡ Number f
+    first_end_lem : declared_end t o b ≡ Some f
     unfolding declared_end
     first_end_lem =
-        let h : read_header t b ≡ header.Header w.its = g.heads.is_read ∙ ap header.Header its in
+        let h : read_header t b ≡ Ok (status.Complete w.its) = g.heads.is_read ∙ ap (λ h. Ok (status.Complete h)) its in
         let a : 0 + w.its.len + w.size ≡ f = omega (arith, w.ends) in
-        ap (λ (n : ℕ). header_end n (read_header t b)) g.offset ∙ ap (header_end 0) h ∙ ap (end_after (0 + w.its.len)) w.known ∙ ap Number a
+        ap (λ (n : ℕ). header_end n (read_header t b)) g.offset ∙ ap (header_end 0) h ∙ ap (end_after (0 + w.its.len)) w.known ∙ ap Some a
 
     -- and is a Master
     first_master : data_type_of t x ≡ type.Master
@@ -84,7 +85,7 @@ module _ (es ps s rest : List ℕ) (f : ℕ) (w : BeginsWithMaster (table_of es 
   -- nothing was taken yet, or the outermost Start of known size is that master's
   data At (l : List Started) (p : ℕ) : Type 0 where
     before : p ≡ 0 → l ≡ [] → At l p
-    inside : outermost_end l ≡ Number f → At l p
+    inside : outermost_end l ≡ Some f → At l p
 
   -- these calls have read a part of it, and have not finished
   record Reading (cs : List Call) : Type 0 where
@@ -94,26 +95,26 @@ module _ (es ps s rest : List ℕ) (f : ℕ) (w : BeginsWithMaster (table_of es 
 
   -- what a call that lends b, with v after it, tells
   told : (b v : List ℕ) → Octets b → (off : Bool) (l : List Started) (left : List ℕ) (p : ℕ) → b ++ v ≡ drop p s → (x : Response) → ResponseFacts t off b l left p x
-      → ((a : Answer) (n : ℕ) → x ≡ answered a n → is_element a ≡ false → n ≡ 0) → ((a : Search) (n : ℕ) → x ≡ searched a n → ⊥)
-      → ((end : WaitingEnd) (n : ℕ) → x ≡ answered (answer.Event (event.End end)) n → outermost_end l ≡ Number f → outermost_end (drop 1 l) ≡ Number f)
+      → ((a : Result Answer Refusal) (n : ℕ) → x ≡ answered a n → is_element a ≡ false → n ≡ 0) → ((a : Result Search Refusal) (n : ℕ) → x ≡ searched a n → ⊥)
+      → ((end : WaitingEnd) (n : ℕ) → x ≡ answered (Ok (answer.Event (event.End end))) n → outermost_end l ≡ Some f → outermost_end (drop 1 l) ≡ Some f)
       → At l p → At (after_response t b x l) (p + taken_in x)
   unfolding outermost_end
-  told b v byte off l left p lies (answered (answer.Event (event.Start x o)) n) g none unsearched stays (before z y) =
+  told b v byte off l left p lies (answered (Ok (answer.Event (event.Start x o))) n) g none unsearched stays (before z y) =
       let g' : ElementFacts t off b l 0 x o = subst (λ (q : ℕ). ElementFacts t off b l q x o) z g.1 in
       inside (rw y (first_end_lem t s rest f w b v byte (lies ∙ ap (λ (q : ℕ). drop q s) z) x o g'))
-  told b v byte off l left p lies (answered (answer.Event (event.Start x o)) n) g none unsearched stays (inside q) = inside (rw q)
-  told b v byte off l left p lies (answered (answer.Event (event.End end)) n) g none unsearched stays (before z y) = before (omega (arith, z, none _ n refl refl)) (rw y)
-  told b v byte off l left p lies (answered (answer.Event (event.End end)) n) g none unsearched stays (inside q) = inside (stays end n refl q)
-  told b v byte off l left p lies (answered (answer.Event (event.Data x o d)) n) g none unsearched stays (before z y) =
+  told b v byte off l left p lies (answered (Ok (answer.Event (event.Start x o))) n) g none unsearched stays (inside q) = inside (rw q)
+  told b v byte off l left p lies (answered (Ok (answer.Event (event.End end))) n) g none unsearched stays (before z y) = before (omega (arith, z, none _ n refl refl)) (rw y)
+  told b v byte off l left p lies (answered (Ok (answer.Event (event.End end))) n) g none unsearched stays (inside q) = inside (stays end n refl q)
+  told b v byte off l left p lies (answered (Ok (answer.Event (event.Data x o d))) n) g none unsearched stays (before z y) =
       let g' : ElementFacts t off b l 0 x o = subst (λ (q : ℕ). ElementFacts t off b l q x o) z g.1 in
       absurd (no_master_lem d (g.0 ∙ first_master t s rest f w b v byte (lies ∙ ap (λ (q : ℕ). drop q s) z) x o g'))
-  told b v byte off l left p lies (answered (answer.Event (event.Data x o d)) n) g none unsearched stays (inside q) = inside q
-  told b v byte off l left p lies (answered (answer.NeedMore missing) n) g none unsearched stays (before z y) = before (omega (arith, z, none _ n refl refl)) y
-  told b v byte off l left p lies (answered (answer.NeedMore missing) n) g none unsearched stays (inside q) = inside q
-  told b v byte off l left p lies (answered answer.Finished n) g none unsearched stays (before z y) = before (omega (arith, z, none _ n refl refl)) y
-  told b v byte off l left p lies (answered answer.Finished n) g none unsearched stays (inside q) = inside q
-  told b v byte off l left p lies (answered (answer.Refused r) n) g none unsearched stays (before z y) = before (omega (arith, z, none _ n refl refl)) y
-  told b v byte off l left p lies (answered (answer.Refused r) n) g none unsearched stays (inside q) = inside q
+  told b v byte off l left p lies (answered (Ok (answer.Event (event.Data x o d))) n) g none unsearched stays (inside q) = inside q
+  told b v byte off l left p lies (answered (Ok (answer.NeedMore missing)) n) g none unsearched stays (before z y) = before (omega (arith, z, none _ n refl refl)) y
+  told b v byte off l left p lies (answered (Ok (answer.NeedMore missing)) n) g none unsearched stays (inside q) = inside q
+  told b v byte off l left p lies (answered (Ok answer.Finished) n) g none unsearched stays (before z y) = before (omega (arith, z, none _ n refl refl)) y
+  told b v byte off l left p lies (answered (Ok answer.Finished) n) g none unsearched stays (inside q) = inside q
+  told b v byte off l left p lies (answered (Err r) n) g none unsearched stays (before z y) = before (omega (arith, z, none _ n refl refl)) y
+  told b v byte off l left p lies (answered (Err r) n) g none unsearched stays (inside q) = inside q
   told b v byte off l left p lies (searched a n) g none unsearched stays k = absurd (unsearched a n refl)
   told b v byte off l left p lies silent g none unsearched stays (before z y) = before (omega (arith, z)) y
   told b v byte off l left p lies silent g none unsearched stays (inside q) = inside q
@@ -146,7 +147,7 @@ module _ (es ps s rest : List ℕ) (f : ℕ) (w : BeginsWithMaster (table_of es 
         at =
             told (lent c) v.0 byte d.settings.allow_oversized (open_at es ps cs) (left_at es ps cs c) (position_at es ps cs) v.1 (last_response es ps cs c) (promised_after es ps cs c run).promised
             (takes_none es ps d c) (no_search es ps d c (lends_no_recovery s (position_at es ps cs) c lies))
-            (λ end n e q. subst (λ (x : Response). outermost_end (after_response t (lent c) x (open_at es ps cs)) ≡ Number f) e
+            (λ end n e q. subst (λ (x : Response). outermost_end (after_response t (lent c) x (open_at es ps cs)) ≡ Some f) e
             (outermost_stays es ps cs c run end f (n, e) q (omega (arith, k.within_s, cut)))) k.at;
       }
 
@@ -156,7 +157,7 @@ module _ (es ps s rest : List ℕ) (f : ℕ) (w : BeginsWithMaster (table_of es 
   reading (c ∷ cs) run i = step c cs run i.0 (reading cs (record { checked = run.checked; octets = run.octets.1 }) i.1)
 
   -- no call answers the finish
-  pub cut_root : (cs : List Call) (c : Call) → Runs es ps (c ∷ cs) → InOrder es ps s (c ∷ cs) → Answers es ps cs c answer.Finished → ⊥
+  pub cut_root : (cs : List Call) (c : Call) → Runs es ps (c ∷ cs) → InOrder es ps s (c ∷ cs) → Answers es ps cs c (Ok answer.Finished) → ⊥
   unfolding record_after
   cut_root cs c run i a =
       let q = subst (λ (x : Response). QuietResponse x (next es ps (record_after es ps cs) c)) a.1 (promised_after es ps cs c run).quiet in

@@ -11,8 +11,6 @@ use lib.Dec.{leb, eqb}
 use lib.ListN.{length, drop, length-map}
 use Rattle.tools.specs.Bytes.{Octets}
 use Rattle.tools.specs.Float.{arr_to_f64}
-use Rattle.tools.specs.declared.float.ArrToF64.{ArrToF64}
-use Rattle.tools.specs.declared.float.ArrToF64.TheVariants as float
 use Rattle.utf8.specs.Rfc3629.{is_text}
 use Rattle.basics.specs.Lists.{every}
 use Rattle.table.specs.Shape.{good_shape}
@@ -35,9 +33,6 @@ use Rattle.tag_parse.specs.declared.types.EBMLSize.TheVariants.{Known, Unknown}
 use Rattle.tag_parse.specs.declared.types.ParseError.{ParseError}
 use Rattle.tag_parse.specs.declared.types.ParseError.TheVariants as parse
 use Rattle.tag_parse.specs.declared.types.Range.{Range}
-use Rattle.tag_parse.specs.declared.types.ReadValue.{ReadValue}
-use Rattle.tag_parse.specs.declared.types.ReadValue.TheVariants as payload
-use Rattle.tag_parse.specs.declared.types.ReadHeader.TheVariants as header
 use Rattle.tag_parse.specs.declared.types.TagHeader.{TagHeader}
 use Rattle.tag_parse.specs.declared.types.TagValue.{TagValue}
 use Rattle.decoder_rules.specs.Record.{opens, implied}
@@ -46,14 +41,9 @@ use Rattle.decoder_rules.specs.OneCall.{check10to12, check_record10to12, step3, 
 use Rattle.decoder_rules.specs.Deciding.{plain, decide}
 use Rattle.decoder_rules.specs.declared.types.Action.{Action}
 use Rattle.decoder_rules.specs.declared.types.Action.TheVariants as act
-use Rattle.decoder_rules.specs.declared.types.Check.{Check}
-use Rattle.decoder_rules.specs.declared.types.Check.TheVariants.{Pass, Fail}
 use Rattle.decoder_rules.specs.declared.types.Decision.{Decision}
 use Rattle.decoder_rules.specs.declared.types.DecodeError.{DecodeError}
 use Rattle.decoder_rules.specs.declared.types.DecodeError.TheVariants as error
-use Rattle.decoder_rules.specs.declared.types.Optional.TheVariants.{Number}
-use Rattle.decoder_rules.specs.declared.types.Note.{Note}
-use Rattle.decoder_rules.specs.declared.types.Note.TheVariants.{NoNote, Settle}
 use Rattle.decoder_rules.specs.declared.types.TagDecoder.{TagDecoder}
 use Rattle.decoder_rules.proofs.HeaderPath.{path_read, path_few}
 use Rattle.decoder_rules.proofs.GoodState.{GoodState, is_good_state}
@@ -66,6 +56,10 @@ use Rattle.basics.proofs.Bools.{pick, cond_yes, both, and_both, not-false}
 use Rattle.guarantees.specs.History.{declared_end, header_end, end_after}
 use Rattle.guarantees.specs.Promises.{value_kind, HeaderAlone, WholeData}
 use Rattle.guarantees.proofs.Ends.{FullBatch, step3_batch, step10_batch}
+use Rattle.std.specs.Prelude.{Err, None, Ok, Option, Result, Some, ⊤}
+use Rattle.table.specs.declared.types.Path.{Path}
+use Rattle.tools.specs.declared.errors.ToolError.{ToolError}
+use Rattle.tools.specs.declared.status.Status.TheVariants as status
 
 -- ---- a Master of the table
 
@@ -114,13 +108,13 @@ parse_mild d parse.ReadF64Mismatch = mild d error.ReadF64Mismatch (omega arith)
 -- ---- a value has the kind that was asked for
 
 -- what a payload is read as has this kind
-abbrev OfKind : TagDataType → ReadValue → Type 0
-OfKind k (payload.Value v) = value_kind v ≡ k
-OfKind k (payload.Refused e) = Unit {0}
+abbrev OfKind : TagDataType → Result TagValue ParseError → Type 0
+OfKind k (Ok v) = value_kind v ≡ k
+OfKind k (Err e) = Unit {0}
 
-float_kind : (r : ArrToF64) → OfKind type.Float (float_or21 r)
-float_kind (float.Bits x) = refl
-float_kind (float.Refused x) = tt
+float_kind : (r : Result ℕ ToolError) → OfKind type.Float (float_or21 r)
+float_kind (Ok x) = refl
+float_kind (Err x) = tt
 
 one_text_kind : (s : List ℕ) (r : Range) → OfKind type.Utf8 (text_of s r)
 one_text_kind s r = pick (OfKind type.Utf8) (is_text s) _ _ (λ e. refl) (λ e. tt)
@@ -164,7 +158,7 @@ Small (Known n) = n < 2 ^ 56
 -- the header at the front of the bytes is that of the ID x
 pub record Heads (t : List Entry) (s : List ℕ) (x : ℕ) : Type 0 where
   pub its : TagHeader
-  pub is_read : read_header t s ≡ header.Header its
+  pub is_read : read_header t s ≡ Ok (status.Complete its)
   pub same_id : its.id ≡ x
 
 -- what holds where a Start was decided
@@ -188,13 +182,13 @@ pub record Holds (t : List Entry) (d : TagDecoder) (s : List ℕ) (x : ℕ) (v :
   -- an element whose path is all IDs settles
   pub settled : (is_typed (data_type_of t x) && only_ids (path_of t x)) ≡ true → d.settled ≡ true
   pub some : 0 < n
-  pub end : declared_end t d.position s ≡ Number (d.position + n)
+  pub end : declared_end t d.position s ≡ Some (d.position + n)
   pub inside : Inside d (d.position + n)
 
 -- why all above the first n close: by the position (3), or by the ID of the header at the front of the bytes (10)
 pub data ClosesFor (t : List Entry) (d : TagDecoder) (s : List ℕ) (n : ℕ) : Type 0 where
   by_position : step3 d ≡ n → ClosesFor t d s n
-  by_next_id : (h : TagHeader) → read_header t s ≡ header.Header h → step10 t d h.id ≡ n → ClosesFor t d s n
+  by_next_id : (h : TagHeader) → read_header t s ≡ Ok (status.Complete h) → step10 t d h.id ≡ n → ClosesFor t d s n
 
 -- what holds where the closing of all above the first n was decided
 pub record Closes (t : List Entry) (d : TagDecoder) (s : List ℕ) (n : ℕ) : Type 0 where
@@ -203,14 +197,14 @@ pub record Closes (t : List Entry) (d : TagDecoder) (s : List ℕ) (n : ℕ) : T
   pub why : ClosesFor t d s n
 
 -- d has the note
-abbrev pub Facts : List Entry → TagDecoder → List ℕ → Action → Type 0
-Facts t d s (act.Refuse e) = Mild d e
-Facts t d s (act.NeedMore missing) = Reading d
-Facts t d s act.Finish = (d.waiting_count ≡ 0) × (d.finished ≡ true)
-Facts t d s act.HandOut = Unit {0}
-Facts t d s (act.Close k) = Closes t d s k
-Facts t d s (act.Start x z len) = Starts t d s x z len
-Facts t d s (act.Data x v n) = Holds t d s x v n
+abbrev pub Facts : List Entry → TagDecoder → List ℕ → Result Action DecodeError → Type 0
+Facts t d s (Err e) = Mild d e
+Facts t d s (Ok (act.NeedMore missing)) = Reading d
+Facts t d s (Ok act.Finish) = (d.waiting_count ≡ 0) × (d.finished ≡ true)
+Facts t d s (Ok act.HandOut) = Unit {0}
+Facts t d s (Ok (act.Close k)) = Closes t d s k
+Facts t d s (Ok (act.Start x z len)) = Starts t d s x z len
+Facts t d s (Ok (act.Data x v n)) = Holds t d s x v n
 
 -- ---- a closing: no table fault
 
@@ -219,7 +213,7 @@ pub no_fault : (t : List Entry) (k : ℕ) (l : List OpenTag) → all_masters t l
 no_fault t k l m e = true≢false (sym (every_drop (λ m. is_master (data_type_of t m.id)) k l m) ∙ e)
 
 module _ (t : List Entry) (d : TagDecoder) (s : List ℕ) (reading : Reading d) (masters : all_masters t (opens d) ≡ true) where
-  closing_facts : (k : ℕ) {a : Action} → FullBatch d k → ClosesFor t d s k → Closing t d k a → Facts t d s a
+  closing_facts : (k : ℕ) {a : Result Action DecodeError} → FullBatch d k → ClosesFor t d s k → Closing t d k a → Facts t d s a
   closing_facts k batch why (exit.closes e) = record { reading = reading; batch = batch; why = why }
   closing_facts k batch why (exit.no_master_lem e) = absurd (no_fault t k (opens d) masters e)
 
@@ -229,7 +223,7 @@ or_off : (a b : Bool) → (a || b) ≡ true → a ≡ false → b ≡ true
 or_off true b e f = absurd (true≢false f)
 or_off false b e f = e
 
-module _ (t : List Entry) (d : TagDecoder) (s : List ℕ) (byte : Octets s) (h : TagHeader) (is : read_header t s ≡ header.Header h) where
+module _ (t : List Entry) (d : TagDecoder) (s : List ℕ) (byte : Octets s) (h : TagHeader) (is : read_header t s ≡ Ok (status.Complete h)) where
   end_is : declared_end t d.position s ≡ end_after (d.position + h.len) h.size
   unfolding declared_end
   end_is = ap (header_end d.position) is
@@ -259,7 +253,7 @@ module _ (t : List Entry) (d : TagDecoder) (s : List ℕ) (byte : Octets s) (h :
       inside = inside_size v h.size refl;
     }
 
-    data-facts : ((is_typed h.kind && only_ids (path_of t h.id)) ≡ true → d.settled ≡ true) → (n : ℕ) (v : TagValue) → HasPayload t d h n → h.len + n ≤ length s → payload_of d h n s ≡ payload.Value v → Holds t d s h.id v (h.len + n)
+    data-facts : ((is_typed h.kind && only_ids (path_of t h.id)) ≡ true → d.settled ≡ true) → (n : ℕ) (v : TagValue) → HasPayload t d h n → h.len + n ≤ length s → payload_of d h n s ≡ Ok v → Holds t d s h.id v (h.len + n)
     data-facts settles n v has l e =
         let a : d.position + h.len + n ≡ d.position + (h.len + n) = omega arith in
         let k : value_kind v ≡ h.kind = subst (OfKind h.kind) e (data-kind _ h.kind _ _ has.no_master_lem) in
@@ -270,7 +264,7 @@ module _ (t : List Entry) (d : TagDecoder) (s : List ℕ) (byte : Octets s) (h :
           whole = record { its = h; read = is; size = n; known = has.known; count = refl; within = l; value = e };
           settled = λ q. settles (ap (λ (k : TagDataType). is_typed k && only_ids (path_of t h.id)) (header_spec t s h is).kind ∙ q);
           some = omega (arith, header_long (header_sound t s h byte is));
-          end = end_is ∙ ap (end_after (d.position + h.len)) has.known ∙ ap Number a;
+          end = end_is ∙ ap (end_after (d.position + h.len)) has.known ∙ ap Some a;
           inside = inside_size has.at.valid (Known n) has.known;
         }
 
@@ -279,7 +273,7 @@ module _ (t : List Entry) (d : TagDecoder) (s : List ℕ) (byte : Octets s) (h :
 
     module _ (masters : all_masters t (opens d) ≡ true) (count : length (opens d) ≡ d.open_count) (settled : is_master h.kind ≡ true → d.settled ≡ true)
         (settles : (is_typed h.kind && only_ids (path_of t h.id)) ≡ true → d.settled ≡ true) where
-      header_facts : {a : Action} → HeaderExit t d h s a → Facts t d s a
+      header_facts : {a : Result Action DecodeError} → HeaderExit t d h s a → Facts t d s a
       header_facts (exit.misplaced p) = mild d error.HierarchyError (omega arith)
       header_facts (exit.oversized n p e f) = mild d error.OversizedChildElement (omega arith)
       header_facts (exit.too_large n p e f g) = mild d error.InvalidTagSize (omega arith)
@@ -301,14 +295,14 @@ pub record Settles (t : List Entry) (d : TagDecoder) (path : List PathPart) : Ty
   pub short : length path ≤ 32
 
 -- what holds of the note that was decided
-abbrev pub NoteFacts : List ℕ → List Entry → TagDecoder → Note → Type 0
-NoteFacts ps t d NoNote = Unit {0}
-NoteFacts ps t d (Settle path) = Settles t d (parts_in (parts_of ps) path)
+abbrev pub NoteFacts : List ℕ → List Entry → TagDecoder → Option Path → Type 0
+NoteFacts ps t d None = Unit {0}
+NoteFacts ps t d (Some path) = Settles t d (parts_in (parts_of ps) path)
 
 all_three : (a b c : Bool) → a ≡ false → b ≡ true → c ≡ true → (not a && b && c) ≡ true
 all_three a b c p q r = rw (p, q, r)
 
-module _ (es ps : List ℕ) (s : List ℕ) (h : TagHeader) (is : read_header (table_of es ps) s ≡ header.Header h) where
+module _ (es ps : List ℕ) (s : List ℕ) (h : TagHeader) (is : read_header (table_of es ps) s ≡ Ok (status.Complete h)) where
   path_is : parts_in (parts_of ps) h.path ≡ path_of (table_of es ps) h.id
   path_is = path_read es ps s h is
 
@@ -316,11 +310,11 @@ module _ (es ps : List ℕ) (s : List ℕ) (h : TagHeader) (is : read_header (ta
   pub path_short : good_shape es ps ≡ true → length (parts_in (parts_of ps) h.path) ≤ 32
   path_short shape = omega (arith, path_few es ps s h is shape)
 
-module _ (es ps : List ℕ) (shape : good_shape es ps ≡ true) (passed : PassedTable (table_of es ps)) (s : List ℕ) (h : TagHeader) (is : read_header (table_of es ps) s ≡ header.Header h) where
+module _ (es ps : List ℕ) (shape : good_shape es ps ≡ true) (passed : PassedTable (table_of es ps)) (s : List ℕ) (h : TagHeader) (is : read_header (table_of es ps) s ≡ Ok (status.Complete h)) where
   -- it holds of the note of a header that was read
   pub step7_facts : (d : TagDecoder) → NoteFacts ps (table_of es ps) d (step7 (table_of es ps) d h)
   step7_facts d =
-      pick (NoteFacts ps (table_of es ps) d) (settles (table_of es ps) d h) (Settle h.path) NoNote
+      pick (NoteFacts ps (table_of es ps) d) (settles (table_of es ps) d h) (Some h.path) None
       (λ e.
       let ids = both (not d.settled && is_typed h.kind) (only_ids (path_of (table_of es ps) h.id)) e in
       record {
@@ -338,7 +332,7 @@ module _ (es ps : List ℕ) (shape : good_shape es ps ≡ true) (passed : Passed
       go true e = refl
       go false e =
           let k = both (is_typed h.kind) (only_ids (path_of (table_of es ps) h.id)) q in
-          ap is_settle (cond_yes (settles (table_of es ps) d h) (Settle h.path) NoNote (all_three _ _ _ e k.left k.right))
+          ap is_settle (cond_yes (settles (table_of es ps) d h) (Some h.path) None (all_three _ _ _ e k.left k.right))
 
   -- so is a Master: its path holds IDs only (rule 33)
   master_settles : (d : TagDecoder) → is_master h.kind ≡ true → (noted ps d (step7 (table_of es ps) d h)).settled ≡ true
@@ -349,19 +343,19 @@ module _ (es ps : List ℕ) (shape : good_shape es ps ≡ true) (passed : Passed
       element_settles d (and_both typed (master_of_ids_lem (table_of es ps) passed h.id (sym (header_spec (table_of es ps) s h is).kind ∙ kind)))
 
 -- the note keeps what the promises need
-noted_reading : (ps : List ℕ) (d : TagDecoder) (n : Note) → Reading d → Reading (noted ps d n)
+noted_reading : (ps : List ℕ) (d : TagDecoder) (n : Option Path) → Reading d → Reading (noted ps d n)
 noted_reading ps d n r = record { none_waiting = noted_waiting_count ps d n ∙ r.none_waiting; unfinished = noted_finished ps d n ∙ r.unfinished }
 
 -- the open masters are Masters of the table with the note too
-pub noted_masters : (ps : List ℕ) (t : List Entry) (d : TagDecoder) (n : Note) → NoteFacts ps t d n → all_masters t (opens d) ≡ true → all_masters t (opens (noted ps d n)) ≡ true
+pub noted_masters : (ps : List ℕ) (t : List Entry) (d : TagDecoder) (n : Option Path) → NoteFacts ps t d n → all_masters t (opens d) ≡ true → all_masters t (opens (noted ps d n)) ≡ true
 unfolding noted
-noted_masters ps t d NoNote f m = m
-noted_masters ps t d (Settle path) f m = rw (settled_opens d (parts_in (parts_of ps) path)) f.masters
+noted_masters ps t d None f m = m
+noted_masters ps t d (Some path) f m = rw (settled_opens d (parts_in (parts_of ps) path)) f.masters
 
-noted_count : (ps : List ℕ) (d : TagDecoder) (n : Note) → length (opens d) ≡ d.open_count → length (opens (noted ps d n)) ≡ (noted ps d n).open_count
+noted_count : (ps : List ℕ) (d : TagDecoder) (n : Option Path) → length (opens d) ≡ d.open_count → length (opens (noted ps d n)) ≡ (noted ps d n).open_count
 unfolding noted
-noted_count ps d NoNote e = e
-noted_count ps d (Settle path) e =
+noted_count ps d None e = e
+noted_count ps d (Some path) e =
     ap length (settled_opens d (parts_in (parts_of ps) path)) ∙ length-map (parts_in (parts_of ps) path) implied ∙ sym (settled_count d (parts_in (parts_of ps) path))
 
 -- ---- 1
@@ -372,17 +366,17 @@ pub record TooFar (d : TagDecoder) (n : ℕ) (e : DecodeError) : Type 0 where
   pub beyond : 2 ^ 62 < d.position + n
 
 -- a check that fails does so with 12
-abbrev FailsFar : TagDecoder → ℕ → Check → Type 0
-FailsFar d n Pass = Unit {0}
-FailsFar d n (Fail e) = TooFar d n e
+abbrev FailsFar : TagDecoder → ℕ → Result ⊤ DecodeError → Type 0
+FailsFar d n (Ok _) = Unit {0}
+FailsFar d n (Err e) = TooFar d n e
 
 -- of 10 to 12 only 12 comes, on a good record and with a table of good shape
-pub only_far : (es ps : List ℕ) (d : TagDecoder) (n : ℕ) {e : DecodeError} → good_shape es ps ≡ true → GoodState d → check_record10to12 es ps d n ≡ Fail e → TooFar d n e
+pub only_far : (es ps : List ℕ) (d : TagDecoder) (n : ℕ) {e : DecodeError} → good_shape es ps ≡ true → GoodState d → check_record10to12 es ps d n ≡ Err e → TooFar d n e
 unfolding check_record10to12 check10to12
 only_far es ps d n shape good q =
     subst (FailsFar d n) q
     (rw (shape, is_good_state d good)
-    (pick (FailsFar d n) (leb (d.position + n) (2 ^ 62)) Pass (Fail error.TooFar) (λ f. tt) (λ f. record { number = refl; beyond = leb-false _ _ f })))
+    (pick (FailsFar d n) (leb (d.position + n) (2 ^ 62)) (Ok _) (Err error.TooFar) (λ f. tt) (λ f. record { number = refl; beyond = leb-false _ _ f })))
 
 -- ---- the decision
 
@@ -393,26 +387,26 @@ pub record AllFacts (ps : List ℕ) (t : List Entry) (d : TagDecoder) (s : List 
 
 module _ (es ps : List ℕ) (shape : good_shape es ps ≡ true) (passed : PassedTable (table_of es ps)) (d : TagDecoder) (s : List ℕ) (byte : Octets s)
     (masters : all_masters (table_of es ps) (opens d) ≡ true) (count : length (opens d) ≡ d.open_count) (good : GoodState d) where
-  plain_facts : (a : Action) → Facts (table_of es ps) d s a → AllFacts ps (table_of es ps) d s (plain a)
+  plain_facts : (a : Result Action DecodeError) → Facts (table_of es ps) d s a → AllFacts ps (table_of es ps) d s (plain a)
   unfolding noted
   plain_facts a f = record { note = tt; action = f }
 
   reading_by : exit.Reading es ps d s → Reading d
   reading_by r = record { none_waiting = r.none_waiting; unfinished = r.unfinished }
 
-  more_facts : {m : ℕ} → NoneFull es ps d s → AllFacts ps (table_of es ps) d s (plain (act.NeedMore m))
-  more_facts {m} n = plain_facts (act.NeedMore m) (reading_by n.reading)
+  more_facts : {m : ℕ} → NoneFull es ps d s → AllFacts ps (table_of es ps) d s (plain (Ok (act.NeedMore m)))
+  more_facts {m} n = plain_facts (Ok (act.NeedMore m)) (reading_by n.reading)
 
   exit_facts : {a : Decision} → Exit es ps d s a → AllFacts ps (table_of es ps) d s a
-  exit_facts (exit.refused_first x e) = plain_facts (act.Refuse x) (let q = (only_far es ps d (length s) shape good e).number in mild d x (omega arith))
-  exit_facts (exit.after_finish e f l) = plain_facts (act.Refuse error.AfterFinish) (mild d error.AfterFinish (omega arith))
-  exit_facts (exit.hands_out ok w) = plain_facts act.HandOut tt
-  exit_facts (exit.finished ok w f) = plain_facts act.Finish (w, f)
+  exit_facts (exit.refused_first x e) = plain_facts (Err x) (let q = (only_far es ps d (length s) shape good e).number in mild d x (omega arith))
+  exit_facts (exit.after_finish e f l) = plain_facts (Err error.AfterFinish) (mild d error.AfterFinish (omega arith))
+  exit_facts (exit.hands_out ok w) = plain_facts (Ok act.HandOut) tt
+  exit_facts (exit.finished ok w f) = plain_facts (Ok act.Finish) (w, f)
   exit_facts (exit.closes_full r l c) = plain_facts _ (closing_facts (table_of es ps) d s (reading_by r) masters (step3 d) (step3_batch d count l) (by_position refl) c)
   exit_facts (exit.no_byte n z) = more_facts n
   exit_facts (exit.header_incomplete at e) = more_facts at.none_full
-  exit_facts (exit.header_refused x at e) = plain_facts (act.Refuse (parse_error x)) (parse_mild d x)
-  exit_facts (exit.id_refused h at f) = plain_facts (act.Refuse (refusal6 d h)) (id_mild d (good_form d.settings.strict h.id))
+  exit_facts (exit.header_refused x at e) = plain_facts (Err (parse_error x)) (parse_mild d x)
+  exit_facts (exit.id_refused h at f) = plain_facts (Err (refusal6 d h)) (id_mild d (good_form d.settings.strict h.id))
   exit_facts (exit.on_header h at f x) =
       let t = table_of es ps in
       let n = step7 t d h in

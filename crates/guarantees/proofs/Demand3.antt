@@ -3,7 +3,6 @@ use Prim.Native.Nat.{ℕ}
 use mathlib.Core.Path.{◌≡◌}
 use mathlib.Core.List.{List, ◌∷◌}
 use Rattle.table.specs.Check.{check_table}
-use Rattle.table.specs.declared.types.Checked.TheVariants.{Passed}
 use Rattle.table.proofs.Examples.{checks}
 use Rattle.table.specs.BenchTable.{bench_entries, bench_parts}
 use Rattle.guarantees.specs.Calls.{Call, ending, Lent}
@@ -16,9 +15,10 @@ use Rattle.guarantees.proofs.Finish.{finish_closes_parents, is_finished_closes_p
 use Rattle.guarantees.proofs.ImpliedFirst.{implied_first}
 use Rattle.guarantees.proofs.Results.{run_is, lent_run_is}
 use Rattle.guarantees.proofs.Cut as cut
+use Rattle.std.specs.Prelude.{Ok}
 
 -- demand 3 holds of every table that the check passes
-pub demand_3 : (es ps : List ℕ) → check_table es ps ≡ Passed → Demand3 es ps
+pub demand_3 : (es ps : List ℕ) → check_table es ps ≡ Ok tt → Demand3 es ps
 demand_3 es ps checked = record {
   of_routines = λ cs d h r. run_is es ps cs d h r;
   of_lent_routines = λ cs d h r. lent_run_is es ps cs d h r;

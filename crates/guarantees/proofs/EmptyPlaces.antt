@@ -22,13 +22,7 @@ use Rattle.decoder_rules.specs.FirstPlace.{record_on, Standing, Incomplete, Vali
 use Rattle.decoder_rules.specs.Settings.{limited_to}
 use Rattle.decoder_rules.specs.declared.types.Action.{Action}
 use Rattle.decoder_rules.specs.declared.types.Action.TheVariants as act
-use Rattle.decoder_rules.specs.declared.types.Check.{Check}
-use Rattle.decoder_rules.specs.declared.types.Check.TheVariants.{Pass, Fail}
 use Rattle.decoder_rules.specs.declared.types.Decoded.{Decoded}
-use Rattle.decoder_rules.specs.declared.types.Note.{Note}
-use Rattle.decoder_rules.specs.declared.types.Note.TheVariants.{NoNote, Settle}
-use Rattle.decoder_rules.specs.declared.types.Optional.{Optional}
-use Rattle.decoder_rules.specs.declared.types.Optional.TheVariants.{Nothing, Number}
 use Rattle.decoder_rules.specs.declared.types.Settings.{Settings}
 use Rattle.decoder_rules.specs.declared.types.TagDecoder.{TagDecoder}
 use Rattle.decoder_rules.proofs.AbsentZero.{AbsentZero, size_known_or0, fresh_absent, master_sized, settings_absent, with_notes_absent, settled_absent, opened_absent, closed_absent, handed_absent, counted_absent, grown_absent}
@@ -44,6 +38,9 @@ use Rattle.decoder_move.specs.Applies.{NoteApplies, ActionApplies}
 use Rattle.decoder_move.proofs.DecisionApplies.{decide_applies, note_none}
 use Rattle.tag_decoder.proofs.Recovering.{step7_applies}
 use Rattle.guarantees.specs.Calls.{Call, decoding, ending, recovering, allow, strictly, limit, lent, next, record_after, Lent}
+use Rattle.std.specs.Prelude.{Err, None, Ok, Option, Result, Some, ⊤}
+use Rattle.decoder_rules.specs.declared.types.DecodeError.{DecodeError}
+use Rattle.table.specs.declared.types.Path.{Path}
 
 -- a record whose empty places and absent values are zero: it has its places, and its counts are at most 32
 pub record Tidy (d : TagDecoder) : Type 0 where
@@ -140,21 +137,21 @@ module _ (d : TagDecoder) (k : Tidy d) where
   }
 
   -- a note that applies, and an action that does
-  noted_tidy : (ps : List ℕ) (n : Note) → NoteApplies ps n → Tidy (noted ps d n)
+  noted_tidy : (ps : List ℕ) (n : Option Path) → NoteApplies ps n → Tidy (noted ps d n)
   unfolding noted NoteApplies
-  noted_tidy ps NoNote f = k
-  noted_tidy ps (Settle path) f = settled_tidy (parts_in (parts_of ps) path) f
+  noted_tidy ps None f = k
+  noted_tidy ps (Some path) f = settled_tidy (parts_in (parts_of ps) path) f
 
-move_tidy : (d : TagDecoder) → Tidy d → (n : ℕ) (a : Action) → ActionApplies d n a → Tidy (move d a).state
+move_tidy : (d : TagDecoder) → Tidy d → (n : ℕ) (a : Result Action DecodeError) → ActionApplies d n a → Tidy (move d a).state
 unfolding move ActionApplies counted with_open with_notes
-move_tidy d k n (act.Refuse e) f = k
-move_tidy d k n (act.NeedMore missing) f = k
-move_tidy d k n act.Finish f = k
-move_tidy d k n act.HandOut f = handed_tidy d k
-move_tidy d k n (act.Close i) f = closed_tidy d k i (omega (arith, f.0))
-move_tidy d k n (act.Start x z len) f =
+move_tidy d k n (Err e) f = k
+move_tidy d k n (Ok (act.NeedMore missing)) f = k
+move_tidy d k n (Ok act.Finish) f = k
+move_tidy d k n (Ok act.HandOut) f = handed_tidy d k
+move_tidy d k n (Ok (act.Close i)) f = closed_tidy d k i (omega (arith, f.0))
+move_tidy d k n (Ok (act.Start x z len)) f =
     opened_tidy _ (counted_tidy _ (notes_tidy d k (d.position + len) d.settled d.finished)) (master_at x z d.position len) f.0 (master_sized x z d.position len)
-move_tidy d k n (act.Data x v m) f = counted_tidy _ (notes_tidy d k (d.position + m) d.settled d.finished)
+move_tidy d k n (Ok (act.Data x v m)) f = counted_tidy _ (notes_tidy d k (d.position + m) d.settled d.finished)
 
 -- ---- decode, and the end of input
 
@@ -194,18 +191,18 @@ standing_tidy Other n e k = k
 recover_tidy : (es ps : List ℕ) (d : TagDecoder) → Tidy d → (s : List ℕ) → Tidy (try_recover es ps d s).state
 recover_tidy es ps d k s = go (check_record10to12 es ps d (length s)) refl
   where
-    go : (c : Check) → check_record10to12 es ps d (length s) ≡ c → Tidy (try_recover es ps d s).state
-    go Pass e =
+    go : (c : Result ⊤ DecodeError) → check_record10to12 es ps d (length s) ≡ c → Tidy (try_recover es ps d s).state
+    go (Ok _) e =
         let i = first_place ps (table_of es ps) d s in
         rw (recovery_is_first es ps d s e)
         (standing_tidy (stands_at ps (table_of es ps) d s i) i (record_on ps (table_of es ps) d s (suc i) i) (on_tidy es ps (passed12 es ps d (length s) e).shape d k s (suc i) i))
-    go (Fail x) e = unfold try_recover in rw e k
+    go (Err x) e = unfold try_recover in rw e k
 
 -- ---- any calls
 
-limited_tidy : (d : TagDecoder) → Tidy d → (n : Optional) → Tidy (limited_to d n)
-limited_tidy d k Nothing = settings_tidy d k _ (λ f. refl)
-limited_tidy d k (Number n) = settings_tidy d k _ (λ f. absurd (true≢false f))
+limited_tidy : (d : TagDecoder) → Tidy d → (n : Option ℕ) → Tidy (limited_to d n)
+limited_tidy d k None = settings_tidy d k _ (λ f. refl)
+limited_tidy d k (Some n) = settings_tidy d k _ (λ f. absurd (true≢false f))
 
 -- any call on such a record leaves one
 pub next_tidy : (es ps : List ℕ) (d : TagDecoder) → Tidy d → (c : Call) → Octets (lent c) → Tidy (next es ps d c)

@@ -16,26 +16,25 @@ use Rattle.spec_util.specs.Walk.{no_tag, unknown_and_ended, ended_tops}
 use Rattle.spec_util.specs.declared.types.OpenTag.{OpenTag}
 use Rattle.decoder_rules.specs.Record.{opens, end_of}
 use Rattle.decoder_rules.specs.OneCall.{is_full, step3, step10}
-use Rattle.decoder_rules.specs.declared.types.Optional.{Optional}
-use Rattle.decoder_rules.specs.declared.types.Optional.TheVariants.{Nothing, Number}
 use Rattle.decoder_rules.specs.declared.types.TagDecoder.{TagDecoder}
 use Rattle.basics.proofs.Bools.{and_both, both}
 use Rattle.basics.proofs.Every.{every_other, every_reversed}
 use Rattle.guarantees.specs.History.{first_end}
+use Rattle.std.specs.Prelude.{None, Option, Some}
 
 -- an end, if it is known
-abbrev pub known_end : Bool → ℕ → Optional
-known_end true e = Number e
-known_end false e = Nothing
+abbrev pub known_end : Bool → ℕ → Option ℕ
+known_end true e = Some e
+known_end false e = None
 
 -- a master of this end has ended at p, if its size is known
-abbrev pub ended_by : ℕ → Optional → Bool
-ended_by p Nothing = true
-ended_by p (Number e) = leb e p
+abbrev pub ended_by : ℕ → Option ℕ → Bool
+ended_by p None = true
+ended_by p (Some e) = leb e p
 
 -- the end of the first master of known size, outermost first
-unfoldable pub first_known : List OpenTag → Optional
-first_known [] = Nothing
+unfoldable pub first_known : List OpenTag → Option ℕ
+first_known [] = None
 first_known (m ∷ l) = first_end (known_end m.known (end_of m)) (first_known l)
 
 -- of the masters above the first k, the outermost of known size is full
@@ -53,7 +52,7 @@ take_reversed l n =
 
 -- ---- 3
 
-done_known : (b : Bool) (p e : ℕ) (g : Optional) → (b && leb e p) ≡ true → ended_by p (first_end (known_end b e) g) ≡ true
+done_known : (b : Bool) (p e : ℕ) (g : Option ℕ) → (b && leb e p) ≡ true → ended_by p (first_end (known_end b e) g) ≡ true
 done_known true p e g h = h
 done_known false p e g h = absurd (false≢true h)
 

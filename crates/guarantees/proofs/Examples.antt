@@ -7,13 +7,13 @@ use lib.ListN.{take, drop}
 use Rattle.decoder_rules.specs.Numbers.{answer_refusal}
 use Rattle.guarantees.proofs.Computing.{history_computes}
 use Rattle.table.specs.Table.{Entry, table_of}
-use Rattle.decoder_rules.specs.declared.types.Optional.TheVariants.{Nothing, Number}
 use Rattle.table.specs.BenchTable.{bench_entries, bench_parts}
 use Rattle.guarantees.specs.Calls.{Call, decoding, ending, recovering, history}
 use Rattle.guarantees.specs.History.{Started, starts_open, parents_left, position}
 use Rattle.guarantees.specs.Promises.{at_the_end}
 use Rattle.guarantees.specs.Counts.{child_counts, children_since, total}
 use Rattle.guarantees.specs.Skipped.{taken_by_events, skipped}
+use Rattle.std.specs.Prelude.{None, Some}
 
 -- the calls of a caller who lends all that is left each time, up to the end of input: the first n calls on the bytes s,
 -- of which each takes as many as this list says; latest first
@@ -51,20 +51,20 @@ after_two = recovering (0x00 ∷ 0x00 ∷ 0xA3 ∷ 0x80 ∷ []) ∷ lending (3 �
 -- what is seen of these records, call by call
 pub record Seen : Type 0 where
   -- D1 after its Data, after the first End, and at the finish
-  pub d1_data : seen (lending (3 ∷ 2 ∷ 3 ∷ 4 ∷ []) d1 []) ≡ (record { id = 0xA1; offset = 3; end = Number 12 } ∷ record { id = 0x4E01; offset = 0; end = Number 12 } ∷ [], [], 12)
-  pub d1_end : seen (lending (3 ∷ 2 ∷ 3 ∷ 4 ∷ 0 ∷ []) d1 []) ≡ (record { id = 0x4E01; offset = 0; end = Number 12 } ∷ [], [], 12)
+  pub d1_data : seen (lending (3 ∷ 2 ∷ 3 ∷ 4 ∷ []) d1 []) ≡ (record { id = 0xA1; offset = 3; end = Some 12 } ∷ record { id = 0x4E01; offset = 0; end = Some 12 } ∷ [], [], 12)
+  pub d1_end : seen (lending (3 ∷ 2 ∷ 3 ∷ 4 ∷ 0 ∷ []) d1 []) ≡ (record { id = 0x4E01; offset = 0; end = Some 12 } ∷ [], [], 12)
   pub d1_finish : seen (lending (3 ∷ 2 ∷ 3 ∷ 4 ∷ 0 ∷ 0 ∷ 0 ∷ []) d1 []) ≡ ([], [], 12)
   -- D2: sizes unknown
-  pub d2_data : seen (lending (3 ∷ 2 ∷ 3 ∷ []) d2 []) ≡ (record { id = 0xA1; offset = 3; end = Nothing } ∷ record { id = 0x4E01; offset = 0; end = Nothing } ∷ [], [], 8)
+  pub d2_data : seen (lending (3 ∷ 2 ∷ 3 ∷ []) d2 []) ≡ (record { id = 0xA1; offset = 3; end = None } ∷ record { id = 0x4E01; offset = 0; end = None } ∷ [], [], 8)
   -- D3, D1 cut after 8 bytes: Session and Feed are open and not full, and the end of input answers 23
-  pub d3_data : seen (lending (3 ∷ 2 ∷ 3 ∷ []) (take 8 d1) []) ≡ (record { id = 0xA1; offset = 3; end = Number 12 } ∷ record { id = 0x4E01; offset = 0; end = Number 12 } ∷ [], [], 8)
+  pub d3_data : seen (lending (3 ∷ 2 ∷ 3 ∷ []) (take 8 d1) []) ≡ (record { id = 0xA1; offset = 3; end = Some 12 } ∷ record { id = 0x4E01; offset = 0; end = Some 12 } ∷ [], [], 8)
   pub d3_cut : answer_refusal (at_the_end bench_entries bench_parts (lending (3 ∷ 2 ∷ 3 ∷ []) (take 8 d1) [])) ≡ 23
   -- D5: reading begins below the root, so that Feed and Session are implied
   pub d5_data : seen (lending (3 ∷ []) d5 []) ≡ ([], 0xA1 ∷ 0x4E01 ∷ [], 3)
   pub d5_end : seen (lending (3 ∷ 0 ∷ []) d5 []) ≡ ([], 0x4E01 ∷ [], 3)
   pub d5_finish : seen (lending (3 ∷ 0 ∷ 0 ∷ 0 ∷ []) d5 []) ≡ ([], [], 3)
   -- the open ends of D1 grow by the two bytes that are passed over
-  pub recovered : seen after_two ≡ (record { id = 0xA1; offset = 3; end = Number 14 } ∷ record { id = 0x4E01; offset = 0; end = Number 14 } ∷ [], [], 10)
+  pub recovered : seen after_two ≡ (record { id = 0xA1; offset = 3; end = Some 14 } ∷ record { id = 0x4E01; offset = 0; end = Some 14 } ∷ [], [], 10)
   -- of the 10 bytes up to there events took 8, and 2 were passed over
   pub took : taken_by_events (history bench_entries bench_parts after_two) ≡ 8
   pub passed_over : skipped (history bench_entries bench_parts after_two) ≡ 2

@@ -19,9 +19,6 @@ use Rattle.decoder_rules.specs.declared.types.Action.TheVariants as act
 use Rattle.decoder_rules.specs.declared.types.Answer.TheVariants as answer
 use Rattle.decoder_rules.specs.declared.types.Decision.{Decision}
 use Rattle.decoder_rules.specs.declared.types.Decoded.{Decoded}
-use Rattle.decoder_rules.specs.declared.types.Note.TheVariants.{NoNote}
-use Rattle.decoder_rules.specs.declared.types.Optional.{Optional}
-use Rattle.decoder_rules.specs.declared.types.Optional.TheVariants.{Nothing, Number}
 use Rattle.decoder_rules.specs.declared.types.TagDecoder.{TagDecoder}
 use Rattle.decoder_rules.proofs.Exits as exit
 use Rattle.decoder_rules.proofs.Exits.{Exit, exits}
@@ -35,6 +32,8 @@ use Rattle.guarantees.specs.Promises.{Runs, Answers, open_at, left_at}
 use Rattle.guarantees.proofs.Tied.{none_open}
 use Rattle.guarantees.proofs.Steps.{no_starts, stack_length, quiet_no_event}
 use Rattle.guarantees.proofs.AnyCalls.{QuietResponse, tied_after, promised_after}
+use Rattle.std.specs.Prelude.{Err, None, Ok, Option, Result, Some}
+use Rattle.decoder_rules.specs.declared.types.DecodeError.{DecodeError}
 
 -- after the end of input nothing is open
 abbrev pub Emptied : TagDecoder → Type 0
@@ -43,17 +42,17 @@ Emptied d = d.finished ≡ true → d.open_count ≡ 0
 -- ---- a decode call
 
 -- what is done after the end of input: no note, and no action that opens or closes
-abbrev is_still : Action → Bool
-is_still (act.Refuse e) = true
-is_still (act.NeedMore missing) = true
-is_still act.Finish = true
-is_still act.HandOut = true
-is_still (act.Close k) = false
-is_still (act.Start x z len) = false
-is_still (act.Data x v n) = false
+abbrev is_still : Result Action DecodeError → Bool
+is_still (Err e) = true
+is_still (Ok (act.NeedMore missing)) = true
+is_still (Ok act.Finish) = true
+is_still (Ok act.HandOut) = true
+is_still (Ok (act.Close k)) = false
+is_still (Ok (act.Start x z len)) = false
+is_still (Ok (act.Data x v n)) = false
 
 record Still (a : Decision) : Type 0 where
-  note : a.note ≡ NoNote
+  note : a.note ≡ None
   action : is_still a.action ≡ true
 
 module _ (es ps : List ℕ) (d : TagDecoder) (s : List ℕ) where
@@ -73,15 +72,15 @@ module _ (es ps : List ℕ) (d : TagDecoder) (s : List ℕ) where
   exit_still (exit.id_refused h at g) f = record { note = refl; action = refl }
   exit_still (exit.on_header h at g x) f = read_on at.at_bytes.none_full.reading f
 
-  still_count : (a : Action) → is_still a ≡ true → (move d a).state.open_count ≡ d.open_count
+  still_count : (a : Result Action DecodeError) → is_still a ≡ true → (move d a).state.open_count ≡ d.open_count
   unfolding move handed_out with_waiting
-  still_count (act.Refuse e) q = refl
-  still_count (act.NeedMore missing) q = refl
-  still_count act.Finish q = refl
-  still_count act.HandOut q = refl
-  still_count (act.Close k) q = absurd (false≢true q)
-  still_count (act.Start x z len) q = absurd (false≢true q)
-  still_count (act.Data x v n) q = absurd (false≢true q)
+  still_count (Err e) q = refl
+  still_count (Ok (act.NeedMore missing)) q = refl
+  still_count (Ok act.Finish) q = refl
+  still_count (Ok act.HandOut) q = refl
+  still_count (Ok (act.Close k)) q = absurd (false≢true q)
+  still_count (Ok (act.Start x z len)) q = absurd (false≢true q)
+  still_count (Ok (act.Data x v n)) q = absurd (false≢true q)
 
   decode_emptied : Emptied d → Emptied (decode es ps d s).state
   unfolding apply noted
@@ -108,10 +107,10 @@ eof_emptied es ps d s h (end.at_end q x) =
 -- ---- any calls
 
 module _ (es ps : List ℕ) (d : TagDecoder) (h : Emptied d) where
-  limit_emptied : (n : Optional) → Emptied (limited_to d n)
+  limit_emptied : (n : Option ℕ) → Emptied (limited_to d n)
   unfolding with_settings
-  limit_emptied Nothing = h
-  limit_emptied (Number n) = h
+  limit_emptied None = h
+  limit_emptied (Some n) = h
 
   next_emptied : (c : Call) → is_no_recovery c ≡ true → Emptied (next es ps d c)
   unfolding with_settings
@@ -130,12 +129,12 @@ emptied_after es ps (c ∷ cs) e =
     next_emptied es ps (record_after es ps cs) (emptied_after es ps cs b.right) c b.left
 
 -- a call that answers the finish leaves the implied parents as they were
-finish_left : (es ps : List ℕ) (cs : List Call) (c : Call) → Answers es ps cs c answer.Finished → parents_left ps (table_of es ps) (history es ps (c ∷ cs)) ≡ left_at es ps cs c
+finish_left : (es ps : List ℕ) (cs : List Call) (c : Call) → Answers es ps cs c (Ok answer.Finished) → parents_left ps (table_of es ps) (history es ps (c ∷ cs)) ≡ left_at es ps cs c
 unfolding history parents_left
 finish_left es ps cs c a = ap (λ (x : Response). left_by x (open_at es ps cs) (left_at es ps cs c)) a.1
 
 -- when the finish is answered and no call was a recovery, every implied parent too has had its End
-pub finish_closes_parents : (es ps : List ℕ) (cs : List Call) (c : Call) → Runs es ps (c ∷ cs) → never_recovered (c ∷ cs) ≡ true → Answers es ps cs c answer.Finished → left_at es ps cs c ≡ []
+pub finish_closes_parents : (es ps : List ℕ) (cs : List Call) (c : Call) → Runs es ps (c ∷ cs) → never_recovered (c ∷ cs) ≡ true → Answers es ps cs c (Ok answer.Finished) → left_at es ps cs c ≡ []
 unfolding record_after
 finish_closes_parents es ps cs c run none a =
     let e = next es ps (record_after es ps cs) c in

@@ -19,8 +19,6 @@ use Rattle.decoder_rules.specs.declared.types.Answer.TheVariants as answer
 use Rattle.decoder_rules.specs.declared.types.DecodeError.{DecodeError}
 use Rattle.decoder_rules.specs.declared.types.Event.{Event}
 use Rattle.decoder_rules.specs.declared.types.Event.TheVariants as event
-use Rattle.decoder_rules.specs.declared.types.Optional.{Optional}
-use Rattle.decoder_rules.specs.declared.types.Optional.TheVariants.{Number}
 use Rattle.decoder_rules.specs.declared.types.Search.TheVariants as search
 use Rattle.decoder_rules.specs.declared.types.TagDecoder.{TagDecoder}
 use Rattle.decoder_rules.specs.declared.types.WaitingEnd.{WaitingEnd}
@@ -34,31 +32,32 @@ use Rattle.guarantees.specs.Promises.{event_kind, event_id, element_offset, Runs
 use Rattle.guarantees.proofs.Tied.{parent_of, as_end, named, as_started, stack, Tied}
 use Rattle.guarantees.proofs.Steps.{reaches_to, all_reach, Ends, ElementFacts, EventFacts, RefusalFacts, no_starts}
 use Rattle.guarantees.proofs.AnyCalls.{ResponseFacts, MeasuredResponse, tied_after, mode_after_lem, promised_after, test_after_lem}
+use Rattle.std.specs.Prelude.{Err, Ok, Option, Some}
 
 -- ---- the refusals
 
 -- a number that no refusal has
 never : (t : List Entry) (off : Bool) (s : List ℕ) (starts : List Started) (left : List ℕ) (p m : ℕ) → (m ≡ 0 → ⊥) → (m ≡ 12 → ⊥)
     → ((e : DecodeError) → RefusalFacts t off s starts left p e → error_number e ≡ m → ⊥) → (x : Response) → ResponseFacts t off s starts left p x → refusal_of x ≡ m → ⊥
-never t off s starts left p m z w f (answered (answer.Event e) n) k q = z (sym q)
-never t off s starts left p m z w f (answered (answer.NeedMore missing) n) k q = z (sym q)
-never t off s starts left p m z w f (answered answer.Finished n) k q = z (sym q)
-never t off s starts left p m z w f (answered (answer.Refused r) n) k q = f r.error k q
-never t off s starts left p m z w f (searched (search.Found passed) n) k q = z (sym q)
-never t off s starts left p m z w f (searched (search.NotFound passed) n) k q = z (sym q)
-never t off s starts left p m z w f (searched (search.Refused r) n) k q = w (sym q ∙ k)
+never t off s starts left p m z w f (answered (Ok (answer.Event e)) n) k q = z (sym q)
+never t off s starts left p m z w f (answered (Ok (answer.NeedMore missing)) n) k q = z (sym q)
+never t off s starts left p m z w f (answered (Ok answer.Finished) n) k q = z (sym q)
+never t off s starts left p m z w f (answered (Err r) n) k q = f r.error k q
+never t off s starts left p m z w f (searched (Ok (search.Found passed)) n) k q = z (sym q)
+never t off s starts left p m z w f (searched (Ok (search.NotFound passed)) n) k q = z (sym q)
+never t off s starts left p m z w f (searched (Err r) n) k q = w (sym q ∙ k)
 never t off s starts left p m z w f silent k q = z (sym q)
 
 -- 19 comes only where 32 masters are open, those that are implied with them
 full_at_19 : (t : List Entry) (off : Bool) (s : List ℕ) (starts : List Started) (left : List ℕ) (p : ℕ) (x : Response) → ResponseFacts t off s starts left p x → refusal_of x ≡ 19
     → length (stack starts left) ≡ 32
-full_at_19 t off s starts left p (answered (answer.Event e) n) k q = absurd (omega arith)
-full_at_19 t off s starts left p (answered (answer.NeedMore missing) n) k q = absurd (omega arith)
-full_at_19 t off s starts left p (answered answer.Finished n) k q = absurd (omega arith)
-full_at_19 t off s starts left p (answered (answer.Refused r) n) k q = k.at_19 q
-full_at_19 t off s starts left p (searched (search.Found passed) n) k q = absurd (omega arith)
-full_at_19 t off s starts left p (searched (search.NotFound passed) n) k q = absurd (omega arith)
-full_at_19 t off s starts left p (searched (search.Refused r) n) k q = absurd (omega arith)
+full_at_19 t off s starts left p (answered (Ok (answer.Event e)) n) k q = absurd (omega arith)
+full_at_19 t off s starts left p (answered (Ok (answer.NeedMore missing)) n) k q = absurd (omega arith)
+full_at_19 t off s starts left p (answered (Ok answer.Finished) n) k q = absurd (omega arith)
+full_at_19 t off s starts left p (answered (Err r) n) k q = k.at_19 q
+full_at_19 t off s starts left p (searched (Ok (search.Found passed)) n) k q = absurd (omega arith)
+full_at_19 t off s starts left p (searched (Ok (search.NotFound passed)) n) k q = absurd (omega arith)
+full_at_19 t off s starts left p (searched (Err r) n) k q = absurd (omega arith)
 full_at_19 t off s starts left p silent k q = absurd (omega arith)
 
 -- ---- elements
@@ -68,14 +67,14 @@ kind_of t off s starts left p (event.Start x o) f = sym f.0
 kind_of t off s starts left p (event.End end) f = sym f.0
 kind_of t off s starts left p (event.Data x o v) f = f.0
 
-element_of_lem : (t : List Entry) (off : Bool) (s : List ℕ) (starts : List Started) (left : List ℕ) (p : ℕ) (e : Event) (o : ℕ) → EventFacts t off s starts left p e → element_offset e ≡ Number o
+element_of_lem : (t : List Entry) (off : Bool) (s : List ℕ) (starts : List Started) (left : List ℕ) (p : ℕ) (e : Event) (o : ℕ) → EventFacts t off s starts left p e → element_offset e ≡ Some o
     → ElementFacts t off s starts p (event_id e) o
 element_of_lem t off s starts left p (event.Start x q) o f e = let z : q ≡ o = cc in subst (ElementFacts t off s starts p x) z f.1
 element_of_lem t off s starts left p (event.End end) o f e = let z : ◌≡◌ {A = ℕ} 0 1 = cc in absurd (omega arith)
 element_of_lem t off s starts left p (event.Data x q v) o f e = let z : q ≡ o = cc in subst (ElementFacts t off s starts p x) z f.1
 
 reached : (e : ℕ) (starts : List Started) → all_reach e starts ≡ true → EndsInside e starts
-reached e starts h m i f k = leb-true e f (subst (λ (g : Optional). reaches_to e g ≡ true) k (every_member (λ (m : Started). reaches_to e m.end) h i))
+reached e starts h m i f k = leb-true e f (subst (λ (g : Option ℕ). reaches_to e g ≡ true) k (every_member (λ (m : Started). reaches_to e m.end) h i))
 
 -- ---- the declared ends, where no call was a recovery
 
@@ -127,47 +126,47 @@ module _ (es ps : List ℕ) (cs : List Call) (c : Call) (run : Runs es ps (c ∷
   no_bad_shape = no_refusal_lem 10 (omega arith) (omega arith) (λ e f q. f.not_10 q)
 
   -- 2. Each event has the kind that the table gives its ID, or is raw where it gives none.
-  pub kind_of_table : (e : Event) → Answers es ps cs c (answer.Event e) → event_kind e ≡ data_type_of (table_of es ps) (event_id e)
+  pub kind_of_table : (e : Event) → Answers es ps cs c (Ok (answer.Event e)) → event_kind e ≡ data_type_of (table_of es ps) (event_id e)
   kind_of_table e a = kind_of (table_of es ps) (record_after es ps cs).settings.allow_oversized (lent c) (open_at es ps cs) (left_at es ps cs c) (position_at es ps cs) e (facts _ a.1)
 
   -- 3. Each End names the last Start still open or, where none is open, the innermost implied parent that is left, with
   -- its offset.
-  pub end_matches : (end : WaitingEnd) → Answers es ps cs c (answer.Event (event.End end)) → EndMatches (open_at es ps cs) (left_at es ps cs c) end
+  pub end_matches : (end : WaitingEnd) → Answers es ps cs c (Ok (answer.Event (event.End end))) → EndMatches (open_at es ps cs) (left_at es ps cs c) end
   end_matches end a = (facts _ a.1).1
 
   -- the offset of a Start or a Data is the position, the count of all bytes taken before it
-  pub offset_is_position : (e : Event) (o : ℕ) → element_offset e ≡ Number o → Answers es ps cs c (answer.Event e) → o ≡ position_at es ps cs
+  pub offset_is_position : (e : Event) (o : ℕ) → element_offset e ≡ Some o → Answers es ps cs c (Ok (answer.Event e)) → o ≡ position_at es ps cs
   offset_is_position e o i a = (element_of_lem (table_of es ps) (record_after es ps cs).settings.allow_oversized (lent c) (open_at es ps cs) (left_at es ps cs c) (position_at es ps cs) e o (facts _ a.1) i).offset
 
   -- the element is the one whose header stands at the front of the bytes lent, so that `declared_end` of them is its end
-  pub element_header : (e : Event) (o : ℕ) → element_offset e ≡ Number o → Answers es ps cs c (answer.Event e) → HeaderOf (table_of es ps) (lent c) e
+  pub element_header : (e : Event) (o : ℕ) → element_offset e ≡ Some o → Answers es ps cs c (Ok (answer.Event e)) → HeaderOf (table_of es ps) (lent c) e
   element_header e o i a =
       let f = (element_of_lem (table_of es ps) (record_after es ps cs).settings.allow_oversized (lent c) (open_at es ps cs) (left_at es ps cs c) (position_at es ps cs) e o (facts _ a.1) i).heads in
       let k : f.its.kind ≡ data_type_of (table_of es ps) (event_id e) = (header_spec (table_of es ps) (lent c) f.its f.is_read).kind ∙ ap (data_type_of (table_of es ps)) f.same_id in
       record { its = f.its; read = f.is_read; same_id = f.same_id; same_kind = k ∙ sym (kind_of_table e a) }
 
   -- 4. When the finish is answered, every Start has had its End.
-  pub finish_closes : Answers es ps cs c answer.Finished → open_at es ps cs ≡ []
+  pub finish_closes : Answers es ps cs c (Ok answer.Finished) → open_at es ps cs ≡ []
   finish_closes a = facts _ a.1
 
   -- 5. with the child-size test on at this call, whatever was done before: each element of known size ends inside every
   -- master of known size then open, as recoveries let these grow
-  pub ends_inside : child_test_on cs ≡ true → (e : Event) (o end : ℕ) → element_offset e ≡ Number o → Answers es ps cs c (answer.Event e)
-      → declared_end (table_of es ps) o (lent c) ≡ Number end → EndsInside end (open_at es ps cs)
+  pub ends_inside : child_test_on cs ≡ true → (e : Event) (o end : ℕ) → element_offset e ≡ Some o → Answers es ps cs c (Ok (answer.Event e))
+      → declared_end (table_of es ps) o (lent c) ≡ Some end → EndsInside end (open_at es ps cs)
   unfolding Lent
   ends_inside on e o end i a k =
       let off : Bool = (record_after es ps cs).settings.allow_oversized in
       let f : ElementFacts (table_of es ps) off (lent c) (open_at es ps cs) (position_at es ps cs) (event_id e) o =
       element_of_lem (table_of es ps) off (lent c) (open_at es ps cs) (left_at es ps cs c) (position_at es ps cs) e o (facts _ a.1) i in
-      let k' : declared_end (table_of es ps) (position_at es ps cs) (lent c) ≡ Number end = subst (λ (q : ℕ). declared_end (table_of es ps) q (lent c) ≡ Number end) f.offset k in
+      let k' : declared_end (table_of es ps) (position_at es ps cs) (lent c) ≡ Some end = subst (λ (q : ℕ). declared_end (table_of es ps) q (lent c) ≡ Some end) f.offset k in
       let is-on : off ≡ false = not-false off (test_after_lem es ps run.checked cs run.octets.1 ∙ on) in
-      let g : Ends off (Number end) (open_at es ps cs) = subst (λ (z : Optional). Ends off z (open_at es ps cs)) k' f.inside in
+      let g : Ends off (Some end) (open_at es ps cs) = subst (λ (z : Option ℕ). Ends off z (open_at es ps cs)) k' f.inside in
       reached end (open_at es ps cs) (g is-on)
 
   -- 5. If the child-size test was never switched off and there was no recovery, each element of known size ends inside
   -- every master of known size then open. The ends are those that the headers declared.
-  pub element_ends_inside : child_test_never_off cs ≡ true → never_recovered cs ≡ true → (e : Event) (o end : ℕ) → element_offset e ≡ Number o
-      → Answers es ps cs c (answer.Event e) → declared_end (table_of es ps) o (lent c) ≡ Number end → EndsInside end (starts_declared (table_of es ps) (history es ps cs))
+  pub element_ends_inside : child_test_never_off cs ≡ true → never_recovered cs ≡ true → (e : Event) (o end : ℕ) → element_offset e ≡ Some o
+      → Answers es ps cs c (Ok (answer.Event e)) → declared_end (table_of es ps) o (lent c) ≡ Some end → EndsInside end (starts_declared (table_of es ps) (history es ps cs))
   element_ends_inside on none e o end i a k = subst (EndsInside end) (declared_so es ps cs none) (ends_inside (never_off_on cs on) e o end i a k)
 
   -- what was measured of the last call
@@ -175,11 +174,11 @@ module _ (es ps : List ℕ) (cs : List Call) (c : Call) (run : Runs es ps (c ∷
   measured x q = subst (MeasuredResponse (record_after es ps cs).settings.strict (table_of es ps) (lent c) (position_at es ps cs)) q (promised_after es ps cs c run).measured
 
   -- a Start takes its header and nothing more
-  pub start_takes_header : (x o n : ℕ) → last_response es ps cs c ≡ answered (answer.Event (event.Start x o)) n → HeaderAlone (table_of es ps) (lent c) n
+  pub start_takes_header : (x o n : ℕ) → last_response es ps cs c ≡ answered (Ok (answer.Event (event.Start x o))) n → HeaderAlone (table_of es ps) (lent c) n
   start_takes_header x o n q = measured _ q
 
   -- a Data lay whole in the bytes lent, and is taken whole
-  pub data-whole : (x o n : ℕ) (v : TagValue) → last_response es ps cs c ≡ answered (answer.Event (event.Data x o v)) n → WholeData (is_strict_after (history es ps cs)) (table_of es ps) (lent c) o n v
+  pub data-whole : (x o n : ℕ) (v : TagValue) → last_response es ps cs c ≡ answered (Ok (answer.Event (event.Data x o v))) n → WholeData (is_strict_after (history es ps cs)) (table_of es ps) (lent c) o n v
   unfolding Lent
   data-whole x o n v q =
       subst (λ (b : Bool). WholeData b (table_of es ps) (lent c) o n v) (mode_after_lem es ps run.checked cs run.octets.1)

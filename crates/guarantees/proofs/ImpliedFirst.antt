@@ -11,41 +11,41 @@ use Rattle.table.specs.Table.{Entry, table_of, data_type_of, path_of, is_typed}
 use Rattle.decoder_rules.specs.OneCall.{is_settle}
 use Rattle.decoder_rules.specs.declared.types.Answer.TheVariants as answer
 use Rattle.decoder_rules.specs.declared.types.Event.TheVariants as event
-use Rattle.decoder_rules.specs.declared.types.Note.{Note}
 use Rattle.decoder_rules.specs.declared.types.TagDecoder.{TagDecoder}
-use Rattle.decoder_rules.specs.declared.types.Note.TheVariants.{NoNote, Settle}
 use Rattle.guarantees.specs.Calls.{Call, lent, Response, answered, searched, silent, record_after, history, Lent}
 use Rattle.guarantees.specs.Settling.{is_strict_after, implied_by, seen_note, has_settled, seen_parents}
 use Rattle.guarantees.specs.History.{Started, parents_left}
 use Rattle.guarantees.specs.Promises.{Runs, last_response, open_at, left_at, position_at, answers_loose, only_loose, EndMatches}
 use Rattle.guarantees.proofs.Tied.{none_open}
 use Rattle.guarantees.proofs.AnyCalls.{ResponseFacts, SettledByResponse, settled_after, tied_after, promised_after}
+use Rattle.std.specs.Prelude.{Err, None, Ok, Option, Some}
+use Rattle.table.specs.declared.types.Path.{Path}
 
 -- ---- a call that settles nothing
 
 -- what a call answers where the record after it has not settled, nothing is open and no parent is left
 told_loose : (t : List Entry) (off : Bool) (s : List ℕ) (starts : List Started) (left : List ℕ) (p : ℕ) (x : Response) (d : TagDecoder)
     → ResponseFacts t off s starts left p x → SettledByResponse t x d → d.settled ≡ false → starts ≡ [] → left ≡ [] → answers_loose t x ≡ true
-told_loose t off s starts left p (answered (answer.Event (event.Start y o)) n) d f g e a b = absurd (true≢false (sym g ∙ e))
-told_loose t off s starts left p (answered (answer.Event (event.End end)) n) d f g e a b =
+told_loose t off s starts left p (answered (Ok (answer.Event (event.Start y o))) n) d f g e a b = absurd (true≢false (sym g ∙ e))
+told_loose t off s starts left p (answered (Ok (answer.Event (event.End end))) n) d f g e a b =
     absurd (subst (λ (l : List ℕ). EndMatches [] l end) b (subst (λ (l : List Started). EndMatches l left end) a f.1))
-told_loose t off s starts left p (answered (answer.Event (event.Data y o v)) n) d f g e a b = loose (is_typed (data_type_of t y) && only_ids (path_of t y)) refl
+told_loose t off s starts left p (answered (Ok (answer.Event (event.Data y o v))) n) d f g e a b = loose (is_typed (data_type_of t y) && only_ids (path_of t y)) refl
   where
     loose : (c : Bool) → (is_typed (data_type_of t y) && only_ids (path_of t y)) ≡ c → not (is_typed (data_type_of t y) && only_ids (path_of t y)) ≡ true
     loose true q = absurd (true≢false (sym (g q) ∙ e))
     loose false q = ap not q
-told_loose t off s starts left p (answered (answer.NeedMore missing) n) d f g e a b = refl
-told_loose t off s starts left p (answered answer.Finished n) d f g e a b = refl
-told_loose t off s starts left p (answered (answer.Refused r) n) d f g e a b = refl
+told_loose t off s starts left p (answered (Ok (answer.NeedMore missing)) n) d f g e a b = refl
+told_loose t off s starts left p (answered (Ok answer.Finished) n) d f g e a b = refl
+told_loose t off s starts left p (answered (Err r) n) d f g e a b = refl
 told_loose t off s starts left p (searched a' n) d f g e a b = refl
 told_loose t off s starts left p silent d f g e a b = refl
 
 -- ---- any calls
 
-no_parents : (ps : List ℕ) (n : Note) → is_settle n ≡ false → implied_by ps n ≡ []
+no_parents : (ps : List ℕ) (n : Option Path) → is_settle n ≡ false → implied_by ps n ≡ []
 unfolding implied_by
-no_parents ps NoNote e = refl
-no_parents ps (Settle path) e = absurd (true≢false e)
+no_parents ps None e = refl
+no_parents ps (Some path) e = absurd (true≢false e)
 
 module _ (es ps : List ℕ) where
   abbrev t : List Entry

@@ -11,7 +11,6 @@ use Rattle.table.specs.Table.{Entry, table_of}
 use Rattle.tag_parse.specs.Header.{read_header}
 use Rattle.tag_parse.specs.declared.types.ParseError.{ParseError}
 use Rattle.tag_parse.specs.declared.types.ParseError.TheVariants as parse
-use Rattle.tag_parse.specs.declared.types.ReadHeader.{ReadHeader}
 use Rattle.tag_parse.specs.declared.types.TagHeader.{TagHeader}
 use Rattle.decoder_rules.specs.Record.{with_settings}
 use Rattle.decoder_rules.specs.Numbers.{error_number, parse_error, answer_refusal}
@@ -26,15 +25,9 @@ use Rattle.decoder_rules.specs.declared.types.Action.{Action}
 use Rattle.decoder_rules.specs.declared.types.Action.TheVariants as act
 use Rattle.decoder_rules.specs.declared.types.Answer.{Answer}
 use Rattle.decoder_rules.specs.declared.types.Answer.TheVariants as answer
-use Rattle.decoder_rules.specs.declared.types.Check.{Check}
-use Rattle.decoder_rules.specs.declared.types.Check.TheVariants.{Pass, Fail}
 use Rattle.decoder_rules.specs.declared.types.Decision.{Decision}
 use Rattle.decoder_rules.specs.declared.types.DecodeError.TheVariants as error
 use Rattle.decoder_rules.specs.declared.types.Decoded.{Decoded}
-use Rattle.decoder_rules.specs.declared.types.Note.{Note}
-use Rattle.decoder_rules.specs.declared.types.Note.TheVariants.{NoNote}
-use Rattle.decoder_rules.specs.declared.types.Optional.{Optional}
-use Rattle.decoder_rules.specs.declared.types.Optional.TheVariants.{Nothing, Number}
 use Rattle.decoder_rules.specs.declared.types.Recovered.{Recovered}
 use Rattle.decoder_rules.specs.declared.types.TagDecoder.{TagDecoder}
 use Rattle.decoder_rules.proofs.GoodState.{GoodState}
@@ -51,31 +44,36 @@ use Rattle.guarantees.specs.Settling.{comes_unread, search_note, seen_note}
 use Rattle.guarantees.proofs.Notes.{search_note_or, note_of}
 use Rattle.guarantees.proofs.Decided.{only_far}
 use Rattle.guarantees.proofs.Recovery.{recover_keeps}
+use Rattle.std.specs.Prelude.{Err, None, Ok, Option, Result, Some, ⊤}
+use Rattle.decoder_rules.specs.declared.types.DecodeError.{DecodeError}
+use Rattle.table.specs.declared.types.Path.{Path}
+use Rattle.decoder_rules.specs.declared.types.Refusal.{Refusal}
+use Rattle.tools.specs.declared.status.Status.{Status}
 
 -- ---- no step after the first refuses with 12 or 13
 
 -- the number of the refusal that was decided; 0 for any other action
-abbrev action_refusal : Action → ℕ
-action_refusal (act.Refuse e) = error_number e
-action_refusal (act.NeedMore missing) = 0
-action_refusal act.Finish = 0
-action_refusal act.HandOut = 0
-action_refusal (act.Close k) = 0
-action_refusal (act.Start x z len) = 0
-action_refusal (act.Data x v n) = 0
+abbrev action_refusal : Result Action DecodeError → ℕ
+action_refusal (Err e) = error_number e
+action_refusal (Ok (act.NeedMore missing)) = 0
+action_refusal (Ok act.Finish) = 0
+action_refusal (Ok act.HandOut) = 0
+action_refusal (Ok (act.Close k)) = 0
+action_refusal (Ok (act.Start x z len)) = 0
+action_refusal (Ok (act.Data x v n)) = 0
 
-move_refusal : (d : TagDecoder) (a : Action) → answer_refusal (move d a).answer ≡ action_refusal a
+move_refusal : (d : TagDecoder) (a : Result Action DecodeError) → answer_refusal (move d a).answer ≡ action_refusal a
 unfolding move
-move_refusal d (act.Refuse e) = refl
-move_refusal d (act.NeedMore missing) = refl
-move_refusal d act.Finish = refl
-move_refusal d act.HandOut = refl
-move_refusal d (act.Close k) = refl
-move_refusal d (act.Start x z len) = refl
-move_refusal d (act.Data x v n) = refl
+move_refusal d (Err e) = refl
+move_refusal d (Ok (act.NeedMore missing)) = refl
+move_refusal d (Ok act.Finish) = refl
+move_refusal d (Ok act.HandOut) = refl
+move_refusal d (Ok (act.Close k)) = refl
+move_refusal d (Ok (act.Start x z len)) = refl
+move_refusal d (Ok (act.Data x v n)) = refl
 
 -- what was decided is no refusal that comes before a byte is read
-abbrev Late : Action → Type 0
+abbrev Late : Result Action DecodeError → Type 0
 Late a = comes_unread (action_refusal a) ≡ false
 
 parse_read : (e : ParseError) → comes_unread (error_number (parse_error e)) ≡ false
@@ -83,11 +81,11 @@ parse_read parse.InvalidTagData = refl
 parse_read parse.FromUtf8Error = refl
 parse_read parse.ReadF64Mismatch = refl
 
-closing_late : {t : List Entry} {d : TagDecoder} {k : ℕ} {a : Action} → Closing t d k a → Late a
+closing_late : {t : List Entry} {d : TagDecoder} {k : ℕ} {a : Result Action DecodeError} → Closing t d k a → Late a
 closing_late (exit.closes e) = refl
 closing_late (exit.no_master_lem e) = refl
 
-header_late : {t : List Entry} {d : TagDecoder} {h : TagHeader} {s : List ℕ} {a : Action} → HeaderExit t d h s a → Late a
+header_late : {t : List Entry} {d : TagDecoder} {h : TagHeader} {s : List ℕ} {a : Result Action DecodeError} → HeaderExit t d h s a → Late a
 header_late (exit.misplaced p) = refl
 header_late (exit.oversized n p e f) = refl
 header_late (exit.too_large n p e f g) = refl
@@ -109,15 +107,15 @@ pub record Began (d : TagDecoder) : Type 0 where
   pub none_open : d.open_count ≡ 0
 
 -- the note that a caller can tell where the refusal has this number
-abbrev told_note : Bool → List Entry → List ℕ → ℕ → Note
-told_note strict t s n = cond (comes_unread n) NoNote (settle_at strict t s)
+abbrev told_note : Bool → List Entry → List ℕ → ℕ → Option Path
+told_note strict t s n = cond (comes_unread n) None (settle_at strict t s)
 
 module _ (es ps : List ℕ) (shape : good_shape es ps ≡ true) (d : TagDecoder) (s : List ℕ) (good : GoodState d) (began : Began d) where
   -- the mode
   abbrev strict : Bool
   strict = d.settings.strict
 
-  settle_is : {r : ReadHeader} → read_header (table_of es ps) s ≡ r → settle_at strict (table_of es ps) s ≡ settle_header strict (table_of es ps) r
+  settle_is : {r : Result (Status TagHeader) ParseError} → read_header (table_of es ps) s ≡ r → settle_at strict (table_of es ps) s ≡ settle_header strict (table_of es ps) r
   unfolding settle_at
   settle_is e = ap (settle_header strict (table_of es ps)) e
 
@@ -144,7 +142,7 @@ module _ (es ps : List ℕ) (shape : good_shape es ps ≡ true) (d : TagDecoder)
       (sym (settle_is at.read ∙ sym (unsettled_note (table_of es ps) d h began.unsettled) ∙ cond_no (step6 d h) _ _ f))
   exit_visible (exit.on_header h at f x) =
       rw (header_late x)
-      (sym (cond_yes (step6 d h) (step7 (table_of es ps) d h) NoNote f) ∙ unsettled_note (table_of es ps) d h began.unsettled ∙ sym (settle_is at.read))
+      (sym (cond_yes (step6 d h) (step7 (table_of es ps) d h) None f) ∙ unsettled_note (table_of es ps) d h began.unsettled ∙ sym (settle_is at.read))
 
   decode_seen : (decide es ps d s).note ≡ told_note strict (table_of es ps) s (answer_refusal (decode es ps d s).answer)
   unfolding apply
@@ -152,11 +150,11 @@ module _ (es ps : List ℕ) (shape : good_shape es ps ≡ true) (d : TagDecoder)
 
   -- ---- the end of input
 
-  quiet_late : (a : Answer) → is_quiet a ≡ true → answer_refusal a ≡ 0
-  quiet_late (answer.Event e) q = refl
-  quiet_late (answer.NeedMore missing) q = refl
-  quiet_late answer.Finished q = refl
-  quiet_late (answer.Refused r) q = absurd (false≢true q)
+  quiet_late : (a : Result Answer Refusal) → is_quiet a ≡ true → answer_refusal a ≡ 0
+  quiet_late (Ok (answer.Event e)) q = refl
+  quiet_late (Ok (answer.NeedMore missing)) q = refl
+  quiet_late (Ok answer.Finished) q = refl
+  quiet_late (Err r) q = absurd (false≢true q)
 
   end_late : {e : TagDecoder} {r : Decoded} → EndExit (table_of es ps) e s r → comes_unread (answer_refusal r.answer) ≡ false
   unfolding move
@@ -186,14 +184,14 @@ module _ (es ps : List ℕ) (d : TagDecoder) (s : List ℕ) (u : d.settled ≡ f
       ≡ seen_note d.settings.strict (table_of es ps) s (searched (try_recover es ps d s).answer (try_recover es ps d s).taken)
   recover_seen = go (check_record10to12 es ps d (length s)) refl
     where
-      go : (c : Check) → check_record10to12 es ps d (length s) ≡ c → search_note_or ps (table_of es ps) d s c ≡ search_note d.settings.strict (table_of es ps) s (try_recover es ps d s).answer
-      go Pass e =
+      go : (c : Result ⊤ DecodeError) → check_record10to12 es ps d (length s) ≡ c → search_note_or ps (table_of es ps) d s c ≡ search_note d.settings.strict (table_of es ps) s (try_recover es ps d s).answer
+      go (Ok _) e =
           let i = first_place ps (table_of es ps) d s in
           unsettled_before (table_of es ps) d s (suc i) u
           ∙ sym
           (ap (λ (r : Recovered). search_note d.settings.strict (table_of es ps) s r.answer) (recovery_is_first es ps d s e)
           ∙ standing-seen d.settings.strict (stands_at ps (table_of es ps) d s i) i (record_on ps (table_of es ps) d s (suc i) i))
-      go (Fail x) e = unfold try_recover in rw e
+      go (Err x) e = unfold try_recover in rw e
 
 -- ---- what has settled: the record says what the notes say
 
@@ -202,10 +200,10 @@ module _ (es ps : List ℕ) (d : TagDecoder) where
   eof_settled s (end.as_decoded q) = decode_settled es ps d s
   eof_settled s (end.at_end q x) = (end_keeps x).settled ∙ noted_settled ps d (decide es ps d s).note
 
-  limit_settled : (n : Optional) → (limited_to d n).settled ≡ (d.settled || false)
+  limit_settled : (n : Option ℕ) → (limited_to d n).settled ≡ (d.settled || false)
   unfolding with_settings
-  limit_settled Nothing = or_none d.settled
-  limit_settled (Number n) = or_none d.settled
+  limit_settled None = or_none d.settled
+  limit_settled (Some n) = or_none d.settled
 
   -- a record has settled after a call where it had before, or where the call's note settles
   pub next_settled : (c : Call) → (next es ps d c).settled ≡ (d.settled || is_settle (note_of es ps d c))

@@ -19,8 +19,6 @@ use Rattle.decoder_rules.specs.declared.types.Answer.{Answer}
 use Rattle.decoder_rules.specs.declared.types.Answer.TheVariants as answer
 use Rattle.decoder_rules.specs.declared.types.Decoded.{Decoded}
 use Rattle.decoder_rules.specs.declared.types.Event.TheVariants as event
-use Rattle.decoder_rules.specs.declared.types.Optional.{Optional}
-use Rattle.decoder_rules.specs.declared.types.Optional.TheVariants.{Nothing, Number}
 use Rattle.decoder_rules.specs.declared.types.TagDecoder.{TagDecoder}
 use Rattle.decoder_rules.proofs.MoveLaws.{is_no_event, noted_finished, decode_finished, decode_stays}
 use Rattle.decoder_rules.proofs.EndExits as end
@@ -31,36 +29,38 @@ use Rattle.guarantees.specs.History.{taken_in, position, is_no_recovery, never_r
 use Rattle.guarantees.specs.Promises.{Runs, last_response, Answers, position_at}
 use Rattle.guarantees.specs.CutRecords.{LendsNext, InOrder}
 use Rattle.guarantees.proofs.AnyCalls.{QuietResponse, promised_after}
+use Rattle.std.specs.Prelude.{Err, None, Ok, Option, Result, Some}
+use Rattle.decoder_rules.specs.declared.types.Refusal.{Refusal}
 
 -- ---- what a call takes
 
 -- an answer that carries an element, a Start or a Data
-abbrev pub is_element : Answer → Bool
-is_element (answer.Event (event.Start x o)) = true
-is_element (answer.Event (event.End end)) = false
-is_element (answer.Event (event.Data x o v)) = true
-is_element (answer.NeedMore missing) = false
-is_element answer.Finished = false
-is_element (answer.Refused r) = false
+abbrev pub is_element : Result Answer Refusal → Bool
+is_element (Ok (answer.Event (event.Start x o))) = true
+is_element (Ok (answer.Event (event.End end))) = false
+is_element (Ok (answer.Event (event.Data x o v))) = true
+is_element (Ok (answer.NeedMore missing)) = false
+is_element (Ok answer.Finished) = false
+is_element (Err r) = false
 
 module _ (es ps : List ℕ) (d : TagDecoder) where
   decode_takes : (s : List ℕ) → is_element (decode es ps d s).answer ≡ false → (decode es ps d s).taken ≡ 0
   decode_takes s = go (decode es ps d s).answer refl
     where
-      go : (a : Answer) → (decode es ps d s).answer ≡ a → is_element a ≡ false → (decode es ps d s).taken ≡ 0
-      go (answer.Event (event.Start x o)) q e = absurd (true≢false e)
-      go (answer.Event (event.End end)) q e = end_takes_nothing es ps d s q
-      go (answer.Event (event.Data x o v)) q e = absurd (true≢false e)
-      go (answer.NeedMore missing) q e = (decode_stays es ps d s (ap is_no_event q)).none
-      go answer.Finished q e = (decode_stays es ps d s (ap is_no_event q)).none
-      go (answer.Refused r) q e = (decode_stays es ps d s (ap is_no_event q)).none
+      go : (a : Result Answer Refusal) → (decode es ps d s).answer ≡ a → is_element a ≡ false → (decode es ps d s).taken ≡ 0
+      go (Ok (answer.Event (event.Start x o))) q e = absurd (true≢false e)
+      go (Ok (answer.Event (event.End end))) q e = end_takes_nothing es ps d s q
+      go (Ok (answer.Event (event.Data x o v))) q e = absurd (true≢false e)
+      go (Ok (answer.NeedMore missing)) q e = (decode_stays es ps d s (ap is_no_event q)).none
+      go (Ok answer.Finished) q e = (decode_stays es ps d s (ap is_no_event q)).none
+      go (Err r) q e = (decode_stays es ps d s (ap is_no_event q)).none
 
   eof_takes : (s : List ℕ) {r : Decoded} → EofExit es ps d s r → is_element r.answer ≡ false → r.taken ≡ 0
   eof_takes s (end.as_decoded q) e = decode_takes s e
   eof_takes s (end.at_end q x) e = (end_keeps x).none
 
   -- only an element takes bytes
-  pub takes_none : (c : Call) (a : Answer) (n : ℕ) → response_to es ps d c ≡ answered a n → is_element a ≡ false → n ≡ 0
+  pub takes_none : (c : Call) (a : Result Answer Refusal) (n : ℕ) → response_to es ps d c ≡ answered a n → is_element a ≡ false → n ≡ 0
   takes_none (decoding s) a n q e =
       let i : (decode es ps d s).answer ≡ a = cc in
       let j : (decode es ps d s).taken ≡ n = cc in
@@ -131,10 +131,10 @@ eof_keeps_finished es ps d b h (end.as_decoded q) = decode_finished es ps d b
 eof_keeps_finished es ps d b h (end.at_end q x) = end_keeps_finished h x ∙ noted_finished ps d (decide es ps d b).note
 
 -- nor does a setting of the greatest size
-pub limit_keeps_finished : (d : TagDecoder) (n : Optional) → (limited_to d n).finished ≡ d.finished
+pub limit_keeps_finished : (d : TagDecoder) (n : Option ℕ) → (limited_to d n).finished ≡ d.finished
 unfolding with_settings
-limit_keeps_finished d Nothing = refl
-limit_keeps_finished d (Number n) = refl
+limit_keeps_finished d None = refl
+limit_keeps_finished d (Some n) = refl
 
 -- ---- all of it is taken
 
@@ -173,7 +173,7 @@ module _ (es ps s : List ℕ) where
       record { inside = within es ps s cs c l.0 i.0 k.inside; done = λ e. stays_done cs c l.0 i.0 (at_done cs c i.0 k e) }
 
   -- when the finish is answered, all of the record has been taken
-  pub finish_reads_all : (cs : List Call) (c : Call) → Runs es ps (c ∷ cs) → InOrder es ps s (c ∷ cs) → Answers es ps cs c answer.Finished → position_at es ps cs ≡ length s
+  pub finish_reads_all : (cs : List Call) (c : Call) → Runs es ps (c ∷ cs) → InOrder es ps s (c ∷ cs) → Answers es ps cs c (Ok answer.Finished) → position_at es ps cs ≡ length s
   unfolding InOrder Lent record_after
   finish_reads_all cs c run i a =
       let q = subst (λ (x : Response). QuietResponse x (next es ps (record_after es ps cs) c)) a.1 (promised_after es ps cs c run).quiet in

@@ -22,7 +22,6 @@ use Rattle.utf8.specs.Rfc3629.{text_after}
 use Rattle.table.specs.Check.{check_table, only_ids}
 use Rattle.table.specs.Shape.{good_shape}
 use Rattle.table.specs.Table.{Entry, table_of, spec_for, data_type_of, path_of, range_of, path_ids, is_master, is_typed}
-use Rattle.table.specs.declared.types.Checked.TheVariants.{Passed}
 use Rattle.table.specs.declared.types.PathPart.{PathPart}
 use Rattle.table.specs.declared.types.PathPart.TheVariants.{Id, Global}
 use Rattle.table.specs.declared.types.TagDataType.{TagDataType}
@@ -41,8 +40,6 @@ use Rattle.tag_parse.specs.Header.{numeric, too_long, size_of, header_of, sized_
 use Rattle.tag_parse.specs.Payload.{value_of}
 use Rattle.tag_parse.specs.declared.types.EBMLSize.{EBMLSize}
 use Rattle.tag_parse.specs.declared.types.EBMLSize.TheVariants.{Known, Unknown}
-use Rattle.tag_parse.specs.declared.types.ReadHeader.TheVariants as header
-use Rattle.tag_parse.specs.declared.types.ReadValue.TheVariants as payload
 use Rattle.tag_parse.specs.declared.types.TagHeader.{TagHeader}
 use Rattle.tag_parse.proofs.Cases.{header_sized, not_long, long_by_kind}
 use Rattle.tag_parse.proofs.Ids.{id_complete}
@@ -52,11 +49,9 @@ use Rattle.decoder_rules.specs.Record.{farthest, opens, first_settings, at_posit
 use Rattle.decoder_rules.specs.declared.types.Action.{Action}
 use Rattle.decoder_rules.specs.declared.types.Action.TheVariants as act
 use Rattle.decoder_rules.specs.declared.types.Answer.TheVariants as answer
-use Rattle.decoder_rules.specs.declared.types.Check.TheVariants.{Pass}
 use Rattle.decoder_rules.specs.declared.types.Decoded.{Decoded}
 use Rattle.decoder_rules.specs.declared.types.Event.{Event}
 use Rattle.decoder_rules.specs.declared.types.Event.TheVariants.{Start}
-use Rattle.decoder_rules.specs.declared.types.Note.TheVariants.{Settle}
 use Rattle.decoder_rules.specs.declared.types.Settings.{Settings}
 use Rattle.decoder_rules.specs.declared.types.TagDecoder.{TagDecoder}
 use Rattle.decoder_rules.proofs.Exits.{is_too_large, AtElement, HeaderExit, starts, holds, AtHeader, on_header, exit_decides}
@@ -70,6 +65,9 @@ use Rattle.guarantees.proofs.AnyCalls.{good_shape_lem}
 use Rattle.guarantees.proofs.Decided.{is_master_lem}
 use Rattle.guarantees.proofs.Ends.{unknown}
 use Rattle.decoder_rules.proofs.Places.{settled_step7}
+use Rattle.std.specs.Prelude.{Ok, Result, Some}
+use Rattle.decoder_rules.specs.declared.types.DecodeError.{DecodeError}
+use Rattle.tools.specs.declared.status.Status.TheVariants as status
 
 -- ---- the header: an ID and one octet of size
 
@@ -80,7 +78,7 @@ header_with t x n z = record { id = x; kind = data_type_of t x; path = range_of 
 module _ (t : List Entry) (x n : ℕ) (octets : List ℕ) (i : IsId x n octets) where
   -- it is read, whatever follows
   header_read : (b v : ℕ) (rest : List ℕ) → IsVint 1 v (b ∷ []) → too_long (data_type_of t x) v ≡ false
-      → read_header t (octets ++ b ∷ rest) ≡ header.Header (header_of x (spec_for t x) n v 1)
+      → read_header t (octets ++ b ∷ rest) ≡ Ok (status.Complete (header_of x (spec_for t x) n v 1))
   unfolding sized sized_by
   header_read b v rest w short =
       let s = octets ++ b ∷ rest in
@@ -89,12 +87,12 @@ module _ (t : List Entry) (x n : ℕ) (octets : List ℕ) (i : IsId x n octets) 
       header_sized t s (id_complete s x n (rw front i)) (sym (ap read_vint back ∙ read_complete 1 v (b ∷ []) rest w)) ∙ rw short
 
   -- so with the size 0
-  empty_header : (rest : List ℕ) → read_header t (octets ++ 0x80 ∷ rest) ≡ header.Header (header_with t x n (Known 0))
+  empty_header : (rest : List ℕ) → read_header t (octets ++ 0x80 ∷ rest) ≡ Ok (status.Complete (header_with t x n (Known 0)))
   unfolding be_bytes size_of
   empty_header rest = header_read 0x80 0 rest (written_is 1 0 (omega arith) (omega arith) (omega arith)) (not_long (data_type_of t x) 0 (omega arith))
 
   -- and of a Master with the size Unknown
-  open_header : (rest : List ℕ) → data_type_of t x ≡ type.Master → read_header t (octets ++ 0xFF ∷ rest) ≡ header.Header (header_with t x n Unknown)
+  open_header : (rest : List ℕ) → data_type_of t x ≡ type.Master → read_header t (octets ++ 0xFF ∷ rest) ≡ Ok (status.Complete (header_with t x n Unknown))
   unfolding be_bytes size_of
   open_header rest m =
       header_read 0xFF 127 rest (written_is 1 127 (omega arith) (omega arith) (omega arith)) (long_by_kind (data_type_of t x) 127 (omega arith) ∙ ap numeric m)
@@ -123,13 +121,13 @@ none_full p (m ∷ l) e =
     rw (not-false m.known b.left, none_full p l b.right) (omega arith)
 
 -- 13 does not come before the end of input
-before_finish : (f : Bool) (n : ℕ) → f ≡ false → check13 f n ≡ Pass
+before_finish : (f : Bool) (n : ℕ) → f ≡ false → check13 f n ≡ Ok tt
 unfolding check13
 before_finish f n e = rw e
 
 -- so a header is read: 1 to 4 are passed
 at_header : (es ps : List ℕ) (d : TagDecoder) (s : List ℕ) (h : TagHeader) → good_shape es ps ≡ true → Calm d → d.position + length s ≤ farthest → 0 < length s
-    → read_header (table_of es ps) s ≡ header.Header h → AtHeader es ps d s h
+    → read_header (table_of es ps) s ≡ Ok (status.Complete h) → AtHeader es ps d s h
 at_header es ps d s h shape calm near some read = record {
   at_bytes = record {
     none_full = record {
@@ -171,7 +169,7 @@ none_ended t x [] e = refl
 none_ended t x (m ∷ l) e = cond_no _ _ 0 (not-false (not m.known && is_ended_in false t m.id x) (both _ (every (stays_open t x) l) e).left)
 
 -- an element that holds nothing has this value
-empty_value_lem : (kind : TagDataType) (p : ℕ) → value_of false kind [] (record { begin = p; end = p }) ≡ payload.Value (empty_value kind p)
+empty_value_lem : (kind : TagDataType) (p : ℕ) → value_of false kind [] (record { begin = p; end = p }) ≡ Ok (empty_value kind p)
 unfolding value_of integer_of be_from text_after
 empty_value_lem type.UnsignedInt p = refl
 empty_value_lem type.Integer p = refl
@@ -187,7 +185,7 @@ unfolding fits_inside
 fits_by d n e = rw e (or-true d.settings.allow_oversized)
 
 -- as ported every Unknown size passes 9
-open_passes : (d : TagDecoder) (len : ℕ) → d.settings.strict ≡ false → step9 d len Unknown ≡ Pass
+open_passes : (d : TagDecoder) (len : ℕ) → d.settings.strict ≡ false → step9 d len Unknown ≡ Ok tt
 unfolding step9
 open_passes d len e = rw e
 
@@ -198,7 +196,7 @@ ported_form strict x e = rw e
 
 module _ (t : List Entry) (d : TagDecoder) (x : ℕ) (r : Ready t d x) (n : ℕ) where
   -- 8 and 10 are passed
-  at_element : (z : EBMLSize) → step9 d (n + 1) z ≡ Pass → AtElement t d (header_with t x n z)
+  at_element : (z : EBMLSize) → step9 d (n + 1) z ≡ Ok tt → AtElement t d (header_with t x n z)
   at_element z fits = record {
     valid = record {
       path = unfold step8 in passes_8 (is_typed (data_type_of t x)) d.settled d.settings.allow_hierarchy (validate_tag_path d.settings.strict t x (opens d))
@@ -211,7 +209,7 @@ module _ (t : List Entry) (d : TagDecoder) (x : ℕ) (r : Ready t d x) (n : ℕ)
   }
 
   -- 9, of the size 0
-  nothing_fits : step9 d (n + 1) (Known 0) ≡ Pass
+  nothing_fits : step9 d (n + 1) (Known 0) ≡ Ok tt
   unfolding step9
   nothing_fits =
       let end = d.position + (n + 1 + 0) in
@@ -221,12 +219,12 @@ module _ (t : List Entry) (d : TagDecoder) (x : ℕ) (r : Ready t d x) (n : ℕ)
       cond_yes (fits_inside d (n + 1 + 0)) _ _ fits ∙ cond_no (is_too_large d 0) _ _ small
 
   -- a Master starts, of either size
-  start_exit : (s : List ℕ) (z : EBMLSize) → step9 d (n + 1) z ≡ Pass → is_master (data_type_of t x) ≡ true → HeaderExit t d (header_with t x n z) s (act.Start x z (n + 1))
+  start_exit : (s : List ℕ) (z : EBMLSize) → step9 d (n + 1) z ≡ Ok tt → is_master (data_type_of t x) ≡ true → HeaderExit t d (header_with t x n z) s (Ok (act.Start x z (n + 1)))
   start_exit s z fits k = starts (at_element z fits) k r.room
 
   -- any other element that holds nothing is a Data
   data-exit : (s : List ℕ) → n + 1 ≤ length s → is_master (data_type_of t x) ≡ false
-      → HeaderExit t d (header_with t x n (Known 0)) s (act.Data x (empty_value (data_type_of t x) (d.position + (n + 1))) (n + 1 + 0))
+      → HeaderExit t d (header_with t x n (Known 0)) s (Ok (act.Data x (empty_value (data_type_of t x) (d.position + (n + 1))) (n + 1 + 0)))
   data-exit s l k =
       let z : n + 1 + 0 ≡ n + 1 = omega arith in
       let v = empty_value (data_type_of t x) (d.position + (n + 1)) in
@@ -236,7 +234,7 @@ module _ (t : List Entry) (d : TagDecoder) (x : ℕ) (r : Ready t d x) (n : ℕ)
 -- ---- the call
 
 -- what a call decides on a header it does, on the record with the note
-done : (es ps : List ℕ) (d : TagDecoder) (s : List ℕ) (h : TagHeader) (a : Action) → AtHeader es ps d s h → is_typed h.kind ≡ true → d.settings.strict ≡ false
+done : (es ps : List ℕ) (d : TagDecoder) (s : List ℕ) (h : TagHeader) (a : Result Action DecodeError) → AtHeader es ps d s h → is_typed h.kind ≡ true → d.settings.strict ≡ false
     → HeaderExit (table_of es ps) (noted ps d (step7 (table_of es ps) d h)) h s a → decode es ps d s ≡ move (noted ps d (step7 (table_of es ps) d h)) a
 unfolding apply
 done es ps d s h a at typed ported x =
@@ -244,7 +242,7 @@ done es ps d s h a at typed ported x =
 
 -- a call answers this event and takes n bytes
 pub record Tells (r : Decoded) (e : Event) (n : ℕ) : Type 0 where
-  pub answer : r.answer ≡ answer.Event e
+  pub answer : r.answer ≡ Ok (answer.Event e)
   pub taken : r.taken ≡ n
 
 module _ (es ps : List ℕ) (shape : good_shape es ps ≡ true) (x n : ℕ) (octets : List ℕ) (i : IsId x n octets) (typed : is_typed (data_type_of (table_of es ps) x) ≡ true)
@@ -277,7 +275,7 @@ module _ (es ps : List ℕ) (shape : good_shape es ps ≡ true) (x n : ℕ) (oct
 
       go : (b : Bool) → is_master (data_type_of t x) ≡ b → Tells (decode es ps d s) (empty_event (data_type_of t x) x d.position (n + 1)) (n + 1)
       go true k =
-          let q = done es ps d s h (act.Start x (Known 0) (n + 1)) at typed ported (start_exit t e x ready n s (Known 0) (nothing_fits t e x ready n) k) in
+          let q = done es ps d s h (Ok (act.Start x (Known 0) (n + 1))) at typed ported (start_exit t e x ready n s (Known 0) (nothing_fits t e x ready n) k) in
           unfold move in rw (q, k, noted-position ps d (step7 t d h)) (record { answer = refl; taken = refl })
       go false k =
           let q = done es ps d s h _ at typed ported (data-exit t e x ready n s (omega (arith, long)) k) in
@@ -329,7 +327,7 @@ stays_open_lem : (t : List Entry) (x : ℕ) (m : OpenTag) → is_ended_by t m.id
 unfolding stays_open unknown_and_ended is_ended_in
 stays_open_lem t x m e = ap not (ap (λ (b : Bool). not m.known && b) e ∙ and-false (not m.known))
 
-module _ (es ps : List ℕ) (checked : check_table es ps ≡ Passed) (x : ℕ) (typed : is_typed (data_type_of (table_of es ps) x) ≡ true) (ids : only_ids (path_of (table_of es ps) x) ≡ true) where
+module _ (es ps : List ℕ) (checked : check_table es ps ≡ (Ok tt)) (x : ℕ) (typed : is_typed (data_type_of (table_of es ps) x) ≡ true) (ids : only_ids (path_of (table_of es ps) x) ≡ true) where
   -- a path has at most 16 parts
   few : length (path_of (table_of es ps) x) ≤ 16
   few = at_most_16 es ps (good_shape_lem es ps checked) x
@@ -339,7 +337,7 @@ module _ (es ps : List ℕ) (checked : check_table es ps ≡ Passed) (x : ℕ) (
   unfolding noted
   settles_to d n z u =
       let h = header_with (table_of es ps) x n z in
-      let note : step7 (table_of es ps) d h ≡ Settle h.path = cond_yes (settles (table_of es ps) d h) _ _ (and_both (and_both (ap not u) typed) ids) in
+      let note : step7 (table_of es ps) d h ≡ Some h.path = cond_yes (settles (table_of es ps) d h) _ _ (and_both (and_both (ap not u) typed) ids) in
       ap (noted ps d) note ∙ ap (settled_to d) (path_in es ps x)
 
   -- so with the note the open masters are the parents
@@ -446,7 +444,7 @@ pub record Opens (t : List Entry) (p : ℕ) (r : Decoded) (x n : ℕ) : Type 0 w
   pub place : r.state.position ≡ p + n
 
 -- the Start of a master of unknown size is such
-start_opens : (t : List Entry) (d : TagDecoder) (x n : ℕ) → Placed t d x → d.open_count < most_open → 0 < n → d.position + n ≤ farthest → Opens t d.position (move d (act.Start x Unknown n)) x n
+start_opens : (t : List Entry) (d : TagDecoder) (x n : ℕ) → Placed t d x → d.open_count < most_open → 0 < n → d.position + n ≤ farthest → Opens t d.position (move d (Ok (act.Start x Unknown n))) x n
 unfolding move
 start_opens t d x n p room some near =
     let q = d.position + n in
@@ -461,13 +459,13 @@ start_opens t d x n p room some near =
     }
 
 -- a Master of unknown size starts
-pub master_told : (es ps : List ℕ) → check_table es ps ≡ Passed → (x n : ℕ) (octets : List ℕ) → IsId x n octets → data_type_of (table_of es ps) x ≡ type.Master
+pub master_told : (es ps : List ℕ) → check_table es ps ≡ Ok tt → (x n : ℕ) (octets : List ℕ) → IsId x n octets → data_type_of (table_of es ps) x ≡ type.Master
     → (d : TagDecoder) (rest : List ℕ) → Before (table_of es ps) d x → d.position + length (octets ++ 0xFF ∷ rest) ≤ farthest
     → Opens (table_of es ps) d.position (decode es ps d (octets ++ 0xFF ∷ rest)) x (n + 1)
 unfolding is_typed
 master_told es ps checked x n octets i master d rest before near =
     subst (λ (a : Decoded). Opens t d.position a x (n + 1)) (sym q)
-    (subst (λ (k : ℕ). Opens t k (move e (act.Start x Unknown (n + 1))) x (n + 1)) place (start_opens t e x (n + 1) p r.room (omega arith) (omega (arith, place, long))))
+    (subst (λ (k : ℕ). Opens t k (move e (Ok (act.Start x Unknown (n + 1)))) x (n + 1)) place (start_opens t e x (n + 1) p r.room (omega arith) (omega (arith, place, long))))
   where
     t : List Entry
     t = table_of es ps
@@ -496,7 +494,7 @@ master_told es ps checked x n octets i master d rest before near =
     r : Ready t e x
     r = ready es ps checked x (ap is_typed master) ids e p
 
-    q : decode es ps d s ≡ move e (act.Start x Unknown (n + 1))
+    q : decode es ps d s ≡ move e (Ok (act.Start x Unknown (n + 1)))
     q =
-        done es ps d s h (act.Start x Unknown (n + 1)) (at_header es ps d s h (good_shape_lem es ps checked) before.calm near (omega (arith, long)) (open_header t x n octets i rest master))
+        done es ps d s h (Ok (act.Start x Unknown (n + 1))) (at_header es ps d s h (good_shape_lem es ps checked) before.calm near (omega (arith, long)) (open_header t x n octets i rest master))
         (ap is_typed master) (ap (λ (u : Settings). u.strict) before.calm.settings) (start_exit t e x r n s Unknown (open_passes e (n + 1) (ap (λ (u : Settings). u.strict) p.calm.settings)) (is_master_lem _ master))

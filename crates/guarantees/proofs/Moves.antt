@@ -14,8 +14,6 @@ use Rattle.spec_util.specs.declared.types.OpenTag.{OpenTag}
 use Rattle.spec_util.specs.Walk.{most_open, no_tag}
 use Rattle.decoder_rules.specs.Record.{farthest, opens, end_of, end_for, no_end, implied, with_settings, with_open, with_waiting, with_notes, at_position, settled_to, with_one_more, counted, opened, ends_from, closed_to, handed_out, size_grown, with_sizes_grown, waits}
 use Rattle.decoder_rules.specs.OneCall.{good_open}
-use Rattle.decoder_rules.specs.declared.types.Optional.{Optional}
-use Rattle.decoder_rules.specs.declared.types.Optional.TheVariants.{Number}
 use Rattle.decoder_rules.specs.declared.types.Settings.{Settings}
 use Rattle.decoder_rules.specs.declared.types.WaitingEnd.{WaitingEnd}
 use Rattle.decoder_rules.specs.declared.types.TagDecoder.{TagDecoder}
@@ -31,6 +29,7 @@ use Rattle.guarantees.specs.Promises.{EndMatches}
 use Rattle.guarantees.proofs.Ends.{known_end}
 use Rattle.decoder_rules.proofs.Exits.{all_masters}
 use Rattle.guarantees.proofs.Tied.{as_started, parent_of, as_end, named, stack, all_started, Linked, map_same, popped, none_open, both_empty}
+use Rattle.std.specs.Prelude.{Option, Some}
 
 -- ---- settings, and the position
 
@@ -301,10 +300,10 @@ pub grown_later : (n : ℕ) (m : OpenTag) → later n (as_started m) ≡ as_star
 unfolding size_grown later
 grown_later n m =
     pick (λ (o : OpenTag). later n (as_started m) ≡ as_started o) m.known _ m
-    (λ e. ap ended (ap (λ (b : Bool). later_end n (known_end b (end_of m))) e ∙ ap Number sum))
+    (λ e. ap ended (ap (λ (b : Bool). later_end n (known_end b (end_of m))) e ∙ ap Some sum))
     (λ e. ap ended (ap (λ (b : Bool). later_end n (known_end b (end_of m))) e ∙ sym (ap (λ (b : Bool). known_end b (end_of m)) e)))
   where
-    ended : Optional → Started
+    ended : Option ℕ → Started
     ended g = record { id = m.id; offset = m.tag_start; end = g }
 
     sum : m.data_start + m.size + n ≡ m.data_start + (m.size + n)

@@ -13,8 +13,6 @@ use Rattle.basics.specs.Lists.{every}
 use Rattle.table.specs.Table.{Entry, table_of}
 use Rattle.decoder_rules.specs.declared.types.Answer.TheVariants as answer
 use Rattle.decoder_rules.specs.declared.types.Event.TheVariants as event
-use Rattle.decoder_rules.specs.declared.types.Optional.{Optional}
-use Rattle.decoder_rules.specs.declared.types.Optional.TheVariants.{Nothing, Number}
 use Rattle.decoder_rules.specs.declared.types.Search.TheVariants as search
 use Rattle.basics.proofs.Bools.{both, not-false}
 use Rattle.basics.proofs.Every.{every_map}
@@ -24,11 +22,12 @@ use Rattle.guarantees.specs.Promises.{Runs, open_at, left_at, position_at, NotFu
 use Rattle.guarantees.proofs.Steps.{reaches_to, all_reach, Ends}
 use Rattle.guarantees.proofs.AnyCalls.{ResponseFacts, promised_after, test_after_lem}
 use Rattle.guarantees.proofs.Guarantees.{never_off_on}
+use Rattle.std.specs.Prelude.{Err, None, Ok, Option, Some}
 
 -- a master of this end ends inside all of these
-abbrev InsideAll : Optional → List Started → Type 0
-InsideAll Nothing l = Unit {0}
-InsideAll (Number e) l = all_reach e l ≡ true
+abbrev InsideAll : Option ℕ → List Started → Type 0
+InsideAll None l = Unit {0}
+InsideAll (Some e) l = all_reach e l ≡ true
 
 -- each ends inside all that were open before it
 unfoldable pub Nested : List Started → Type 0
@@ -37,18 +36,18 @@ Nested (m ∷ l) = InsideAll m.end l × Nested l
 
 -- ---- kept by what a call tells
 
-inside_all : (g : Optional) (l : List Started) → Ends false g l → InsideAll g l
-inside_all Nothing l e = tt
-inside_all (Number e) l f = f refl
+inside_all : (g : Option ℕ) (l : List Started) → Ends false g l → InsideAll g l
+inside_all None l e = tt
+inside_all (Some e) l f = f refl
 
-reaches-later : (n e : ℕ) (g : Optional) → reaches_to e g ≡ true → reaches_to (e + n) (later_end n g) ≡ true
-reaches-later n e Nothing h = refl
-reaches-later n e (Number f) h = le-leb (e + n) (f + n) (omega (arith, leb-true e f h))
+reaches-later : (n e : ℕ) (g : Option ℕ) → reaches_to e g ≡ true → reaches_to (e + n) (later_end n g) ≡ true
+reaches-later n e None h = refl
+reaches-later n e (Some f) h = le-leb (e + n) (f + n) (omega (arith, leb-true e f h))
 
-inside_later : (n : ℕ) (g : Optional) (l : List Started) → InsideAll g l → InsideAll (later_end n g) (map (later n) l)
+inside_later : (n : ℕ) (g : Option ℕ) (l : List Started) → InsideAll g l → InsideAll (later_end n g) (map (later n) l)
 unfolding later
-inside_later n Nothing l h = tt
-inside_later n (Number e) l h = every_map (λ (m : Started). reaches_to e m.end) (later n) (λ (m : Started). reaches_to (e + n) m.end) (λ m f. reaches-later n e m.end f) l h
+inside_later n None l h = tt
+inside_later n (Some e) l h = every_map (λ (m : Started). reaches_to e m.end) (later n) (λ (m : Started). reaches_to (e + n) m.end) (λ m f. reaches-later n e m.end f) l h
 
 nested_later : (n : ℕ) (l : List Started) → Nested l → Nested (map (later n) l)
 unfolding Nested later
@@ -62,16 +61,16 @@ nested_drop (m ∷ l) h = h.1
 
 nested_told : (t : List Entry) (s : List ℕ) (starts : List Started) (left : List ℕ) (p : ℕ) (x : Response) → ResponseFacts t false s starts left p x → Nested starts → Nested (after_response t s x starts)
 unfolding Nested
-nested_told t s starts left p (answered (answer.Event (event.Start y o)) n) f h =
+nested_told t s starts left p (answered (Ok (answer.Event (event.Start y o))) n) f h =
     (inside_all (declared_end t o s) starts (subst (λ (q : ℕ). Ends false (declared_end t q s) starts) (sym f.1.offset) f.1.inside), h)
-nested_told t s starts left p (answered (answer.Event (event.End end)) n) f h = nested_drop starts h
-nested_told t s starts left p (answered (answer.Event (event.Data y o v)) n) f h = h
-nested_told t s starts left p (answered (answer.NeedMore missing) n) f h = h
-nested_told t s starts left p (answered answer.Finished n) f h = h
-nested_told t s starts left p (answered (answer.Refused r) n) f h = h
-nested_told t s starts left p (searched (search.Found passed) n) f h = nested_later passed starts h
-nested_told t s starts left p (searched (search.NotFound passed) n) f h = h
-nested_told t s starts left p (searched (search.Refused r) n) f h = h
+nested_told t s starts left p (answered (Ok (answer.Event (event.End end))) n) f h = nested_drop starts h
+nested_told t s starts left p (answered (Ok (answer.Event (event.Data y o v))) n) f h = h
+nested_told t s starts left p (answered (Ok (answer.NeedMore missing)) n) f h = h
+nested_told t s starts left p (answered (Ok answer.Finished) n) f h = h
+nested_told t s starts left p (answered (Err r) n) f h = h
+nested_told t s starts left p (searched (Ok (search.Found passed)) n) f h = nested_later passed starts h
+nested_told t s starts left p (searched (Ok (search.NotFound passed)) n) f h = h
+nested_told t s starts left p (searched (Err r) n) f h = h
 nested_told t s starts left p silent f h = h
 
 -- after any calls they are nested, where the child-size test was never off
@@ -95,28 +94,28 @@ reaches_outermost e (m ∷ l) h =
     let b = both (reaches_to e m.end) (all_reach e l) h in
     go (outermost_end l) b.left (reaches_outermost e l b.right)
   where
-    go : (g : Optional) → reaches_to e m.end ≡ true → reaches_to e g ≡ true → reaches_to e (first_end g m.end) ≡ true
-    go Nothing p q = p
-    go (Number f) p q = q
+    go : (g : Option ℕ) → reaches_to e m.end ≡ true → reaches_to e g ≡ true → reaches_to e (first_end g m.end) ≡ true
+    go None p q = p
+    go (Some f) p q = q
 
 -- where one of nested Starts is not full, the outermost of known size is not full
-pub outermost_not_full : (l : List Started) (p : ℕ) → Nested l → NotFull l p → (f : ℕ) × (outermost_end l ≡ Number f) × (p < f)
+pub outermost_not_full : (l : List Started) (p : ℕ) → Nested l → NotFull l p → (f : ℕ) × (outermost_end l ≡ Some f) × (p < f)
 unfolding Nested outermost_end
 outermost_not_full [] p h n = absurd (Memᴰ.not-nil n.still_open)
 outermost_not_full (m ∷ l) p h n = ⊎_elim here (λ i. there (outermost_not_full l p h.1 (record { master = n.master; still_open = i; end = n.end; known = n.known; beyond = n.beyond }))) (Memᴰ.cases_cons n.still_open)
   where
     Found : Type 0
-    Found = (f : ℕ) × (first_end (outermost_end l) m.end ≡ Number f) × (p < f)
+    Found = (f : ℕ) × (first_end (outermost_end l) m.end ≡ Some f) × (p < f)
 
     here : n.master ≡ m → Found
     here e = go (outermost_end l) (reach (ap (λ (o : Started). o.end) (sym e) ∙ n.known))
       where
-        reach : m.end ≡ Number n.end → (m.end ≡ Number n.end) × (reaches_to n.end (outermost_end l) ≡ true)
-        reach q = (q, reaches_outermost n.end l (subst (λ (g : Optional). InsideAll g l) q h.0))
+        reach : m.end ≡ Some n.end → (m.end ≡ Some n.end) × (reaches_to n.end (outermost_end l) ≡ true)
+        reach q = (q, reaches_outermost n.end l (subst (λ (g : Option ℕ). InsideAll g l) q h.0))
 
-        go : (g : Optional) → (m.end ≡ Number n.end) × (reaches_to n.end g ≡ true) → (f : ℕ) × (first_end g m.end ≡ Number f) × (p < f)
-        go Nothing q = (n.end, q.0, n.beyond)
-        go (Number f) q = (f, refl, omega (arith, leb-true n.end f q.1, n.beyond))
+        go : (g : Option ℕ) → (m.end ≡ Some n.end) × (reaches_to n.end g ≡ true) → (f : ℕ) × (first_end g m.end ≡ Some f) × (p < f)
+        go None q = (n.end, q.0, n.beyond)
+        go (Some f) q = (f, refl, omega (arith, leb-true n.end f q.1, n.beyond))
 
-    there : (f : ℕ) × (outermost_end l ≡ Number f) × (p < f) → Found
-    there r = (r.0, ap (λ (g : Optional). first_end g m.end) r.1, r.2)
+    there : (f : ℕ) × (outermost_end l ≡ Some f) × (p < f) → Found
+    there r = (r.0, ap (λ (g : Option ℕ). first_end g m.end) r.1, r.2)

@@ -12,8 +12,6 @@ use lib.Seq.{take-nil}
 use Rattle.basics.specs.Lists.{every}
 use Rattle.spec_util.specs.declared.types.OpenTag.{OpenTag}
 use Rattle.decoder_rules.specs.Record.{opens, end_of}
-use Rattle.decoder_rules.specs.declared.types.Optional.{Optional}
-use Rattle.decoder_rules.specs.declared.types.Optional.TheVariants.{Nothing, Number}
 use Rattle.decoder_rules.specs.declared.types.TagDecoder.{TagDecoder}
 use Rattle.basics.proofs.Bools.{both}
 use Rattle.basics.proofs.Every.{every_append, every_take}
@@ -21,6 +19,7 @@ use Rattle.basics.proofs.Maps.{take-map}
 use Rattle.guarantees.specs.History.{Started, later_end, later, first_end, outermost_end, left_by_end}
 use Rattle.guarantees.proofs.Ends.{known_end, ended_by, first_known, FullBatch, take_reversed}
 use Rattle.guarantees.proofs.Tied.{as_started, parent_of, stack, all_ended}
+use Rattle.std.specs.Prelude.{None, Option, Some}
 
 -- ---- where nothing waits
 
@@ -35,9 +34,9 @@ one_less : (p : ℕ) (m : Started) (l : List Started) → ended_by p (outermost_
 unfolding outermost_end
 one_less p m l e = go (outermost_end l) e
   where
-    go : (g : Optional) → ended_by p (first_end g m.end) ≡ true → ended_by p g ≡ true
-    go Nothing f = refl
-    go (Number n) f = f
+    go : (g : Option ℕ) → ended_by p (first_end g m.end) ≡ true → ended_by p g ≡ true
+    go None f = refl
+    go (Some n) f = f
 
 -- those that wait once the first End is handed out
 pub batch_less : (starts : List Started) (left : List ℕ) (w p : ℕ) → ended_by p (outermost_end (take (w + 1) (stack starts left))) ≡ true
@@ -57,9 +56,9 @@ all_outermost p (m ∷ l) e =
     let b = both (ended_by p m.end) (all_ended p l) e in
     go (outermost_end l) b.left (all_outermost p l b.right)
   where
-    go : (g : Optional) → ended_by p m.end ≡ true → ended_by p g ≡ true → ended_by p (first_end g m.end) ≡ true
-    go Nothing h f = h
-    go (Number n) h f = f
+    go : (g : Option ℕ) → ended_by p m.end ≡ true → ended_by p g ≡ true → ended_by p (first_end g m.end) ≡ true
+    go None h f = h
+    go (Some n) h f = f
 
 parents_ended : (p : ℕ) (left : List ℕ) → all_ended p (map parent_of left) ≡ true
 unfolding every
@@ -78,14 +77,14 @@ outermost_last : (l : List Started) (m : Started) → outermost_end (l ++ (m ∷
 unfolding outermost_end
 outermost_last [] m = nothing-first m.end
   where
-    nothing-first : (g : Optional) → g ≡ first_end g Nothing
-    nothing-first Nothing = refl
-    nothing-first (Number e) = refl
-outermost_last (a ∷ l) m = ap (λ (g : Optional). first_end g a.end) (outermost_last l m) ∙ two m.end (outermost_end l) a.end
+    nothing-first : (g : Option ℕ) → g ≡ first_end g None
+    nothing-first None = refl
+    nothing-first (Some e) = refl
+outermost_last (a ∷ l) m = ap (λ (g : Option ℕ). first_end g a.end) (outermost_last l m) ∙ two m.end (outermost_end l) a.end
   where
-    two : (f g h : Optional) → first_end (first_end f g) h ≡ first_end f (first_end g h)
-    two Nothing g h = refl
-    two (Number e) g h = refl
+    two : (f g h : Option ℕ) → first_end (first_end f g) h ≡ first_end f (first_end g h)
+    two None g h = refl
+    two (Some e) g h = refl
 
 -- the outermost of the open masters, from the top down
 pub outermost_known : (l : List OpenTag) → outermost_end (map as_started (reverse l)) ≡ first_known l
@@ -110,16 +109,16 @@ batch_closed d l n w e h f =
 outermost_later : (n : ℕ) (l : List Started) → outermost_end (map (later n) l) ≡ later_end n (outermost_end l)
 unfolding outermost_end later
 outermost_later n [] = refl
-outermost_later n (m ∷ l) = ap (λ (g : Optional). first_end g (later_end n m.end)) (outermost_later n l) ∙ go (outermost_end l) m.end
+outermost_later n (m ∷ l) = ap (λ (g : Option ℕ). first_end g (later_end n m.end)) (outermost_later n l) ∙ go (outermost_end l) m.end
   where
-    go : (g h : Optional) → first_end (later_end n g) (later_end n h) ≡ later_end n (first_end g h)
-    go Nothing h = refl
-    go (Number e) h = refl
+    go : (g h : Option ℕ) → first_end (later_end n g) (later_end n h) ≡ later_end n (first_end g h)
+    go None h = refl
+    go (Some e) h = refl
 
 -- an end that has come has come n bytes on
-pub ended_grown : (p n : ℕ) (g : Optional) → ended_by p g ≡ true → ended_by (p + n) (later_end n g) ≡ true
-ended_grown p n Nothing e = refl
-ended_grown p n (Number f) e = le-leb (f + n) (p + n) (omega (arith, leb-true f p e))
+pub ended_grown : (p n : ℕ) (g : Option ℕ) → ended_by p g ≡ true → ended_by (p + n) (later_end n g) ≡ true
+ended_grown p n None e = refl
+ended_grown p n (Some f) e = le-leb (f + n) (p + n) (omega (arith, leb-true f p e))
 
 -- so it is with those that wait
 pub batch_later : (p n w : ℕ) (l m : List Started) → m ≡ map (later n) l → ended_by p (outermost_end (take w l)) ≡ true → ended_by (p + n) (outermost_end (take w m)) ≡ true

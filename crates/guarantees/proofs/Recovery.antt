@@ -16,12 +16,6 @@ use Rattle.decoder_rules.specs.Numbers.{error_number}
 use Rattle.decoder_rules.specs.OneCall.{good_open, check_record10to12, noted, is_settle}
 use Rattle.decoder_rules.specs.Recovery.{try_recover}
 use Rattle.decoder_rules.specs.FirstPlace.{note_before, record_on, Standing, Incomplete, Valid, Other, stands_at, first_place, recovered_at}
-use Rattle.decoder_rules.specs.declared.types.Check.{Check}
-use Rattle.decoder_rules.specs.declared.types.Check.TheVariants.{Pass, Fail}
-use Rattle.decoder_rules.specs.declared.types.Optional.{Optional}
-use Rattle.decoder_rules.specs.declared.types.Optional.TheVariants.{Nothing, Number}
-use Rattle.decoder_rules.specs.declared.types.Note.{Note}
-use Rattle.decoder_rules.specs.declared.types.Note.TheVariants.{NoNote, Settle}
 use Rattle.decoder_rules.specs.declared.types.Recovered.{Recovered}
 use Rattle.decoder_rules.specs.declared.types.Search.{Search}
 use Rattle.decoder_rules.specs.declared.types.Search.TheVariants as search
@@ -42,12 +36,16 @@ use Rattle.guarantees.proofs.Tied.{stack, all_ended, Linked, Tied}
 use Rattle.guarantees.proofs.Outermost.{none_batch, ended_grown, batch_later}
 use Rattle.guarantees.proofs.Moves.{moved_linked, settled_linked, stack_later, grown_linked}
 use Rattle.guarantees.proofs.Steps.{unsettled_waiting}
+use Rattle.std.specs.Prelude.{Err, None, Ok, Option, Result, Some, ⊤}
+use Rattle.decoder_rules.specs.declared.types.DecodeError.{DecodeError}
+use Rattle.table.specs.declared.types.Path.{Path}
+use Rattle.decoder_rules.specs.declared.types.Refusal.{Refusal}
 
 -- ---- ends and places
 
-ended-later : (p q : ℕ) → p ≤ q → (g : Optional) → ended_by p g ≡ true → ended_by q g ≡ true
-ended-later p q h Nothing e = refl
-ended-later p q h (Number f) e = le-leb f q (omega (arith, leb-true f p e))
+ended-later : (p q : ℕ) → p ≤ q → (g : Option ℕ) → ended_by p g ≡ true → ended_by q g ≡ true
+ended-later p q h None e = refl
+ended-later p q h (Some f) e = le-leb f q (omega (arith, leb-true f p e))
 
 all_later : (p q : ℕ) → p ≤ q → (l : List Started) → all_ended p l ≡ true → all_ended q l ≡ true
 all_later p q h l e = every_other (λ m. ended_by p m.end) (λ m. ended_by q m.end) (λ m f. ended-later p q h m.end f) l e
@@ -59,10 +57,10 @@ all_grown p n l e = every_map (λ m. ended_by p m.end) (later n) (λ m. ended_by
 -- ---- what a recovery promises
 
 -- a recovery is refused with 12 alone
-abbrev pub SearchFacts : Search → Type 0
-SearchFacts (search.Found passed) = Unit {0}
-SearchFacts (search.NotFound passed) = Unit {0}
-SearchFacts (search.Refused r) = error_number r.error ≡ 12
+abbrev pub SearchFacts : Result Search Refusal → Type 0
+SearchFacts (Ok (search.Found passed)) = Unit {0}
+SearchFacts (Ok (search.NotFound passed)) = Unit {0}
+SearchFacts (Err r) = error_number r.error ≡ 12
 
 -- a recovery that starts at p on the bytes s, left being the implied parents with those of its note
 pub record RecoveryHolds (t : List Entry) (s : List ℕ) (starts : List Started) (left : List ℕ) (p : ℕ) (r : Recovered) : Type 0 where
@@ -89,10 +87,10 @@ module _ (t : List Entry) (starts : List Started) (left : List ℕ) (p : ℕ) (e
     good = k.good;
   }
 
-  with_note_lem : (ps : List ℕ) (x : Note) → NoteFacts ps t e x → Passing t starts left p e → Passing t starts (implied_by ps x ++ left) p (noted ps e x)
+  with_note_lem : (ps : List ℕ) (x : Option Path) → NoteFacts ps t e x → Passing t starts left p e → Passing t starts (implied_by ps x ++ left) p (noted ps e x)
   unfolding noted implied_by settled_to with_open with_notes
-  with_note_lem ps NoNote f k = k
-  with_note_lem ps (Settle path) f k = record {
+  with_note_lem ps None f k = k
+  with_note_lem ps (Some path) f k = record {
     linked = settled_linked t e starts left e.position k.linked (parts_in (parts_of ps) path) f.unsettled f.masters f.short;
     finished = k.finished;
     full = k.full;
@@ -134,7 +132,7 @@ module _ (t : List Entry) (s : List ℕ) (starts : List Started) (left : List �
 
 module _ (es ps : List ℕ) (shape : good_shape es ps ≡ true) (passed : PassedTable (table_of es ps)) (starts : List Started) (d : TagDecoder) (s : List ℕ) where
   -- a recovery where a refusal comes first, or none
-  abbrev RecoveryHoldsOr : List ℕ → ℕ → Check → Type 0
+  abbrev RecoveryHoldsOr : List ℕ → ℕ → Result ⊤ DecodeError → Type 0
   RecoveryHoldsOr left p c = RecoveryHolds (table_of es ps) s starts (implied_by ps (search_note_or ps (table_of es ps) d s c) ++ left) p (try_recover es ps d s)
 
   -- so far a search comes, with the note that the places up to its end leave
@@ -150,16 +148,16 @@ module _ (es ps : List ℕ) (shape : good_shape es ps ≡ true) (passed : Passed
       (omega (arith, noted-position ps d n)) (omega (arith, near, (first_is_least es ps d s).within))
       (with_note_lem t starts left d.position d ps n facts k)
 
-  search_or_lem : (left : List ℕ) → Tied (table_of es ps) d starts left d.position → (c : Check) → check_record10to12 es ps d (length s) ≡ c → RecoveryHoldsOr left d.position c
+  search_or_lem : (left : List ℕ) → Tied (table_of es ps) d starts left d.position → (c : Result ⊤ DecodeError) → check_record10to12 es ps d (length s) ≡ c → RecoveryHoldsOr left d.position c
   unfolding try_recover record_on with_notes implied_by
-  search_or_lem left k Pass e =
+  search_or_lem left k (Ok _) e =
       let t = table_of es ps in
       let i = first_place ps t d s in
       let at_first : Passing t starts left d.position d =
       record { linked = k.linked; finished = k.finished; full = k.full; batch = k.batch; good = k.linked.good.masters } in
       rw (recovery_is_first es ps d s e)
       (ends t s starts _ d.position i (record_on ps t d s (suc i) i) refl (search_passes left (passed12 es ps d (length s) e).near at_first) (stands_at ps t d s i))
-  search_or_lem left k (Fail x) e =
+  search_or_lem left k (Err x) e =
       let z : d.position ≡ d.position + 0 = omega arith in
       rw e (record { promised = (only_far es ps d (length s) shape k.linked.good e).number; tied = subst (Tied (table_of es ps) d starts left) z k })
 
@@ -174,12 +172,12 @@ module _ (es ps : List ℕ) (shape : good_shape es ps ≡ true) (passed : Passed
 -- ---- a recovery leaves the settings, and settles where its first note does
 
 -- what it keeps of the record d, where n is its first note
-pub record Keeps (d : TagDecoder) (n : Note) (e : TagDecoder) : Type 0 where
+pub record Keeps (d : TagDecoder) (n : Option Path) (e : TagDecoder) : Type 0 where
   pub settings : SameSettings d e
   pub settled : e.settled ≡ (d.settled || is_settle n)
 
 module _ (es ps : List ℕ) (d : TagDecoder) (s : List ℕ) where
-  standing-keeps : (n : Note) (x : Standing) (i : ℕ) (e : TagDecoder) → Keeps d n e → Keeps d n (recovered_at x i e).state
+  standing-keeps : (n : Option Path) (x : Standing) (i : ℕ) (e : TagDecoder) → Keeps d n e → Keeps d n (recovered_at x i e).state
   standing-keeps n Incomplete i e k = k
   standing-keeps n Valid i e k = record { settings = grown_settings e i ∙ k.settings; settled = (grown_notes e i).settled ∙ k.settled }
   standing-keeps n Other i e k = k
@@ -192,8 +190,8 @@ module _ (es ps : List ℕ) (d : TagDecoder) (s : List ℕ) where
   pub recover_keeps : Keeps d (search_note_or ps (table_of es ps) d s (check_record10to12 es ps d (length s))) (try_recover es ps d s).state
   recover_keeps = go (check_record10to12 es ps d (length s)) refl
     where
-      go : (c : Check) → check_record10to12 es ps d (length s) ≡ c → Keeps d (search_note_or ps (table_of es ps) d s c) (try_recover es ps d s).state
-      go Pass e =
+      go : (c : Result ⊤ DecodeError) → check_record10to12 es ps d (length s) ≡ c → Keeps d (search_note_or ps (table_of es ps) d s c) (try_recover es ps d s).state
+      go (Ok _) e =
           let i = first_place ps (table_of es ps) d s in
           rw (recovery_is_first es ps d s e) (standing-keeps _ (stands_at ps (table_of es ps) d s i) i (record_on ps (table_of es ps) d s (suc i) i) (on_keeps (suc i) i))
-      go (Fail x) e = unfold try_recover in rw e (record { settings = refl; settled = or_none d.settled })
+      go (Err x) e = unfold try_recover in rw e (record { settings = refl; settled = or_none d.settled })

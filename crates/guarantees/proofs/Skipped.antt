@@ -10,7 +10,6 @@ use Rattle.basics.proofs.Bools.{both, pick, cond_yes, cond_no, not-false, absurd
 use Rattle.table.specs.BenchTable.{bench_entries, bench_parts}
 use Rattle.table.specs.Check.{check_table, only_ids}
 use Rattle.table.specs.Table.{table_of, parts_of, parts_in, path_of, is_typed}
-use Rattle.table.specs.declared.types.Checked.TheVariants.{Passed}
 use Rattle.table.specs.declared.types.PathPart.{PathPart}
 use Rattle.table.specs.declared.types.PathPart.TheVariants.{Id, Global}
 use Rattle.table.proofs.Examples.{checks}
@@ -22,10 +21,6 @@ use Rattle.decoder_rules.specs.OneCall.{check_record10to12, settles, step7, note
 use Rattle.decoder_rules.specs.Recovery.{try_recover, passed_in, is_found}
 use Rattle.decoder_rules.specs.FirstPlace.{record_on, Standing, Incomplete, Valid, Other, stands_at, is_valid, first_place, recovered_at}
 use Rattle.decoder_rules.specs.declared.types.Answer.TheVariants as answer
-use Rattle.decoder_rules.specs.declared.types.Check.{Check}
-use Rattle.decoder_rules.specs.declared.types.Check.TheVariants.{Pass, Fail}
-use Rattle.decoder_rules.specs.declared.types.Note.{Note}
-use Rattle.decoder_rules.specs.declared.types.Note.TheVariants.{NoNote, Settle}
 use Rattle.decoder_rules.specs.declared.types.Search.{Search}
 use Rattle.decoder_rules.specs.declared.types.TagDecoder.{TagDecoder}
 use Rattle.decoder_rules.proofs.FirstPlace.{note_holds, recovery_is_first, recovery_tells_first, recovery_passes_over}
@@ -39,12 +34,16 @@ use Rattle.guarantees.proofs.Decided.{only_far}
 use Rattle.guarantees.proofs.EmptyPlaces.{tidy_after, on_tidy}
 use Rattle.guarantees.proofs.InOrder.{takes_none}
 use Rattle.guarantees.proofs.Steps.{stack_length, unsettled_waiting}
+use Rattle.std.specs.Prelude.{Err, None, Ok, Option, Result, Some, ⊤}
+use Rattle.decoder_rules.specs.declared.types.DecodeError.{DecodeError}
+use Rattle.table.specs.declared.types.Path.{Path}
+use Rattle.decoder_rules.specs.declared.types.Refusal.{Refusal}
 
 -- ---- the bytes of a session
 
 module _ (es ps : List ℕ) (d : TagDecoder) where
   -- a call that is answered as a recovery is one
-  searched_is : (c : Call) (a : Search) (n : ℕ) → response_to es ps d c ≡ searched a n
+  searched_is : (c : Call) (a : Result Search Refusal) (n : ℕ) → response_to es ps d c ≡ searched a n
       → (s : List ℕ) × (a ≡ (try_recover es ps d s).answer) × (n ≡ (try_recover es ps d s).taken)
   searched_is (decoding s) a n q = let z : ◌≡◌ {A = ℕ} 0 1 = cc in absurd_eq z
   searched_is (ending s) a n q = let z : ◌≡◌ {A = ℕ} 0 1 = cc in absurd_eq z
@@ -55,10 +54,10 @@ module _ (es ps : List ℕ) (d : TagDecoder) where
 
   -- what a call takes an event took, or a recovery passed over
   taken_by_lem : (c : Call) (x : Response) → response_to es ps d c ≡ x → taken_in x ≡ event_took x + recovery_passed x
-  taken_by_lem c (answered (answer.Event e) n) q = omega arith
-  taken_by_lem c (answered (answer.NeedMore missing) n) q = omega (arith, takes_none es ps d c _ n q refl)
-  taken_by_lem c (answered answer.Finished n) q = omega (arith, takes_none es ps d c _ n q refl)
-  taken_by_lem c (answered (answer.Refused r) n) q = omega (arith, takes_none es ps d c _ n q refl)
+  taken_by_lem c (answered (Ok (answer.Event e)) n) q = omega arith
+  taken_by_lem c (answered (Ok (answer.NeedMore missing)) n) q = omega (arith, takes_none es ps d c _ n q refl)
+  taken_by_lem c (answered (Ok answer.Finished) n) q = omega (arith, takes_none es ps d c _ n q refl)
+  taken_by_lem c (answered (Err r) n) q = omega (arith, takes_none es ps d c _ n q refl)
   taken_by_lem c (searched a n) q =
       let k = searched_is c a n q in
       let same : passed_in a ≡ n = ap passed_in k.1 ∙ (recovery_passes_over es ps d k.0).taken ∙ sym k.2 in
@@ -99,7 +98,7 @@ plus_none : (l : List ℕ) → l ≡ map (λ e. e + 0) l
 plus_none [] = refl
 plus_none (e ∷ l) = let z : e ≡ e + 0 = omega arith in rw (← z, ← plus_none l)
 
-module _ (es ps : List ℕ) (checked : check_table es ps ≡ Passed) (cs : List Call) (l : Lent cs) where
+module _ (es ps : List ℕ) (checked : check_table es ps ≡ (Ok tt)) (cs : List Call) (l : Lent cs) where
   abbrev d : TagDecoder
   d = record_after es ps cs
 
@@ -112,13 +111,13 @@ module _ (es ps : List ℕ) (checked : check_table es ps ≡ Passed) (cs : List 
       ap (λ (n : ℕ). take n d.«open») z
 
   -- no note changes a known end
-  abbrev Same : Note → Type 0
+  abbrev Same : Option Path → Type 0
   Same n = known_ends (opens (noted ps d n)) ≡ known_ends (opens d)
 
   step7_ends : (h : TagHeader) → Same (step7 (table_of es ps) d h)
   unfolding noted known_ends
   step7_ends h =
-      pick Same (settles (table_of es ps) d h) (Settle h.path) NoNote
+      pick Same (settles (table_of es ps) d h) (Some h.path) None
       (λ e.
       let ids = both (not d.settled && is_typed h.kind) (only_ids (path_of (table_of es ps) h.id)) e in
       let u = not-false d.settled (both (not d.settled) (is_typed h.kind) ids.left).left in
@@ -138,35 +137,35 @@ module _ (es ps : List ℕ) (checked : check_table es ps ≡ Passed) (cs : List 
       ap known_ends (grown_opens e i (omega (arith, k.arrays.masters, k.few_open))) ∙ ends_of_grown i (opens e) ∙ ap (map (λ e. e + i)) (on_ends s (suc i) i)
   standing_ends s Other i = on_ends s (suc i) i ∙ plus_none _
 
-  ends_grow : (s : List ℕ) (a : Search) (n : ℕ) → last_response es ps cs (recovering s) ≡ searched a n
+  ends_grow : (s : List ℕ) (a : Result Search Refusal) (n : ℕ) → last_response es ps cs (recovering s) ≡ searched a n
       → known_ends (opens (record_after es ps (recovering s ∷ cs))) ≡ map (λ e. e + grown_by a) (known_ends (opens d))
   unfolding record_after
   ends_grow s a n q =
       let same : (try_recover es ps d s).answer ≡ a = cc in
-      subst (λ (x : Search). known_ends (opens (try_recover es ps d s).state) ≡ map (λ e. e + grown_by x) (known_ends (opens d))) same
+      subst (λ (x : Result Search Refusal). known_ends (opens (try_recover es ps d s).state) ≡ map (λ e. e + grown_by x) (known_ends (opens d))) same
       (go (check_record10to12 es ps d (length s)) refl)
     where
-      go : (c : Check) → check_record10to12 es ps d (length s) ≡ c
+      go : (c : Result ⊤ DecodeError) → check_record10to12 es ps d (length s) ≡ c
           → known_ends (opens (try_recover es ps d s).state) ≡ map (λ e. e + grown_by (try_recover es ps d s).answer) (known_ends (opens d))
-      go Pass e = let i = first_place ps (table_of es ps) d s in rw (recovery_is_first es ps d s e) (standing_ends s (stands_at ps (table_of es ps) d s i) i)
-      go (Fail x) e = unfold try_recover in rw e (plus_none _)
+      go (Ok _) e = let i = first_place ps (table_of es ps) d s in rw (recovery_is_first es ps d s e) (standing_ends s (stands_at ps (table_of es ps) d s i) i)
+      go (Err x) e = unfold try_recover in rw e (plus_none _)
 
   -- ---- the first place
 
-  passed_is_first : (s : List ℕ) (a : Search) (n : ℕ) → last_response es ps cs (recovering s) ≡ searched a n → search_refusal a ≡ 0
+  passed_is_first : (s : List ℕ) (a : Result Search Refusal) (n : ℕ) → last_response es ps cs (recovering s) ≡ searched a n → search_refusal a ≡ 0
       → (passed_in a ≡ first_place ps (table_of es ps) d s) × (is_found a ≡ is_valid (stands_at ps (table_of es ps) d s (passed_in a)))
   passed_is_first s a n q z =
       let same : (try_recover es ps d s).answer ≡ a = cc in
       subst First same (go (check_record10to12 es ps d (length s)) refl (ap search_refusal same ∙ z))
     where
-      First : Search → Type 0
+      First : Result Search Refusal → Type 0
       First x = (passed_in x ≡ first_place ps (table_of es ps) d s) × (is_found x ≡ is_valid (stands_at ps (table_of es ps) d s (passed_in x)))
 
-      go : (c : Check) → check_record10to12 es ps d (length s) ≡ c → search_refusal (try_recover es ps d s).answer ≡ 0 → First (try_recover es ps d s).answer
-      go Pass e f =
+      go : (c : Result ⊤ DecodeError) → check_record10to12 es ps d (length s) ≡ c → search_refusal (try_recover es ps d s).answer ≡ 0 → First (try_recover es ps d s).answer
+      go (Ok _) e f =
           let k = recovery_tells_first es ps d s e in
           (k.passed, k.found ∙ ap (λ (i : ℕ). is_valid (stands_at ps (table_of es ps) d s i)) (sym k.passed))
-      go (Fail x) e f =
+      go (Err x) e f =
           let far = (only_far es ps d (length s) (good_shape_lem es ps checked) (tied_after es ps checked cs l).linked.good e).number in
           let z : search_refusal (try_recover es ps d s).answer ≡ error_number x = unfold try_recover in rw e in
           absurd (omega (arith, far, z, f))
@@ -174,7 +173,7 @@ module _ (es ps : List ℕ) (checked : check_table es ps ≡ Passed) (cs : List 
 -- ---- of every table that the check passes
 
 -- what recovery skips is as stated
-pub skipping : (es ps : List ℕ) → check_table es ps ≡ Passed → Skipping es ps
+pub skipping : (es ps : List ℕ) → check_table es ps ≡ Ok tt → Skipping es ps
 skipping es ps checked = record {
   position_is = λ cs. position_is es ps cs;
   at_most_position = λ cs. omega (arith, position_is es ps cs);
@@ -184,12 +183,12 @@ skipping es ps checked = record {
   ends_grow = λ cs s a n l. ends_grow es ps checked cs l s a n;
 }
   where
-    taken_of : (cs : List Call) (s : List ℕ) (a : Search) (n : ℕ) → last_response es ps cs (recovering s) ≡ searched a n → (passed_in a ≡ n) × (passed_in a ≤ length s)
+    taken_of : (cs : List Call) (s : List ℕ) (a : Result Search Refusal) (n : ℕ) → last_response es ps cs (recovering s) ≡ searched a n → (passed_in a ≡ n) × (passed_in a ≤ length s)
     taken_of cs s a n q =
         let same : (try_recover es ps (record_after es ps cs) s).answer ≡ a = cc in
         let took : (try_recover es ps (record_after es ps cs) s).taken ≡ n = cc in
         let k = recovery_passes_over es ps (record_after es ps cs) s in
-        (ap passed_in (sym same) ∙ k.taken ∙ took, subst (λ (x : Search). passed_in x ≤ length s) same k.within)
+        (ap passed_in (sym same) ∙ k.taken ∙ took, subst (λ (x : Result Search Refusal). passed_in x ≤ length s) same k.within)
 
 -- so of document 01's bench table
 pub bench_skipping : Skipping bench_entries bench_parts

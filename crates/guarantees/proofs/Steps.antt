@@ -34,10 +34,6 @@ use Rattle.decoder_rules.specs.declared.types.DecodeError.{DecodeError}
 use Rattle.decoder_rules.specs.declared.types.DecodeError.TheVariants as error
 use Rattle.decoder_rules.specs.declared.types.Event.{Event}
 use Rattle.decoder_rules.specs.declared.types.Event.TheVariants as event
-use Rattle.decoder_rules.specs.declared.types.Optional.{Optional}
-use Rattle.decoder_rules.specs.declared.types.Optional.TheVariants.{Nothing, Number}
-use Rattle.decoder_rules.specs.declared.types.Note.{Note}
-use Rattle.decoder_rules.specs.declared.types.Note.TheVariants.{NoNote, Settle}
 use Rattle.decoder_rules.specs.declared.types.Settings.{Settings}
 use Rattle.decoder_rules.specs.declared.types.TagDecoder.{TagDecoder}
 use Rattle.basics.proofs.Every.{every_drop, every_map, every_front, every_reversed}
@@ -57,22 +53,25 @@ use Rattle.guarantees.proofs.Decided.{is_master_lem, Mild, Reading, InsideSize, 
 use Rattle.guarantees.proofs.Tied.{as_started, parent_of, as_end, named, stack, all_ended, Linked, Tied, both_empty}
 use Rattle.guarantees.proofs.Outermost.{none_batch, batch_less, all_batch, batch_closed}
 use Rattle.guarantees.proofs.Moves.{none_ended, moved_linked, counted_linked, settled_linked, opened_linked, handed_linked, closed_linked}
+use Rattle.std.specs.Prelude.{Err, None, Ok, Option, Result, Some}
+use Rattle.table.specs.declared.types.Path.{Path}
+use Rattle.decoder_rules.specs.declared.types.Refusal.{Refusal}
 
 -- ---- what is promised of an answer
 
 -- the master of this end, if its size is known, ends at e or later
-abbrev pub reaches_to : ℕ → Optional → Bool
-reaches_to e Nothing = true
-reaches_to e (Number f) = leb e f
+abbrev pub reaches_to : ℕ → Option ℕ → Bool
+reaches_to e None = true
+reaches_to e (Some f) = leb e f
 
 -- every one of these Starts that is of known size ends at e or later
 abbrev pub all_reach : ℕ → List Started → Bool
 all_reach e l = every (λ m. reaches_to e m.end) l
 
 -- where the child-size test is on (off is false), an element that ends at e ends inside every open master of known size
-abbrev pub Ends : Bool → Optional → List Started → Type 0
-Ends off Nothing starts = Unit {0}
-Ends off (Number e) starts = off ≡ false → all_reach e starts ≡ true
+abbrev pub Ends : Bool → Option ℕ → List Started → Type 0
+Ends off None starts = Unit {0}
+Ends off (Some e) starts = off ≡ false → all_reach e starts ≡ true
 
 -- what is promised of a Start or a Data of ID x and offset o at position p
 pub record ElementFacts (t : List Entry) (off : Bool) (s : List ℕ) (starts : List Started) (p x o : ℕ) : Type 0 where
@@ -95,19 +94,19 @@ module _ (t : List Entry) (off : Bool) (s : List ℕ) (starts : List Started) (l
     pub at_19 : error_number e ≡ 19 → length (stack starts left) ≡ 32
 
   -- what is promised of an answer
-  abbrev pub AnswerFacts : Answer → Type 0
-  AnswerFacts (answer.Event e) = EventFacts e
-  AnswerFacts (answer.NeedMore missing) = Unit {0}
-  AnswerFacts answer.Finished = starts ≡ []
-  AnswerFacts (answer.Refused r) = RefusalFacts r.error
+  abbrev pub AnswerFacts : Result Answer Refusal → Type 0
+  AnswerFacts (Ok (answer.Event e)) = EventFacts e
+  AnswerFacts (Ok (answer.NeedMore missing)) = Unit {0}
+  AnswerFacts (Ok answer.Finished) = starts ≡ []
+  AnswerFacts (Err r) = RefusalFacts r.error
 
 -- an answer that ends the events takes nothing and leaves no End waiting; the finish is answered of a record that is
 -- finished
-abbrev pub Quiet : Answer → ℕ → TagDecoder → Type 0
-Quiet (answer.Event e) n d = Unit {0}
-Quiet (answer.NeedMore missing) n d = (n ≡ 0) × (d.waiting_count ≡ 0)
-Quiet answer.Finished n d = (n ≡ 0) × (d.waiting_count ≡ 0) × (d.finished ≡ true)
-Quiet (answer.Refused r) n d = Unit {0}
+abbrev pub Quiet : Result Answer Refusal → ℕ → TagDecoder → Type 0
+Quiet (Ok (answer.Event e)) n d = Unit {0}
+Quiet (Ok (answer.NeedMore missing)) n d = (n ≡ 0) × (d.waiting_count ≡ 0)
+Quiet (Ok answer.Finished) n d = (n ≡ 0) × (d.waiting_count ≡ 0) × (d.finished ≡ true)
+Quiet (Err r) n d = Unit {0}
 
 -- a Start takes its header alone, a Data its element whole
 abbrev pub MeasuredEvent : Bool → List Entry → List ℕ → ℕ → Event → ℕ → Type 0
@@ -116,20 +115,20 @@ MeasuredEvent strict t s p (event.End end) n = Unit {0}
 MeasuredEvent strict t s p (event.Data x o v) n = WholeData strict t s p n v
 
 -- the same of an answer
-abbrev pub Measured : Bool → List Entry → List ℕ → ℕ → Answer → ℕ → Type 0
-Measured strict t s p (answer.Event e) n = MeasuredEvent strict t s p e n
-Measured strict t s p (answer.NeedMore missing) n = Unit {0}
-Measured strict t s p answer.Finished n = Unit {0}
-Measured strict t s p (answer.Refused r) n = Unit {0}
+abbrev pub Measured : Bool → List Entry → List ℕ → ℕ → Result Answer Refusal → ℕ → Type 0
+Measured strict t s p (Ok (answer.Event e)) n = MeasuredEvent strict t s p e n
+Measured strict t s p (Ok (answer.NeedMore missing)) n = Unit {0}
+Measured strict t s p (Ok answer.Finished) n = Unit {0}
+Measured strict t s p (Err r) n = Unit {0}
 
 -- an element whose path is all IDs leaves the record settled
-abbrev pub SettledBy : List Entry → Answer → TagDecoder → Type 0
-SettledBy t (answer.Event (event.Start x o)) e = e.settled ≡ true
-SettledBy t (answer.Event (event.End end)) e = Unit {0}
-SettledBy t (answer.Event (event.Data x o v)) e = (is_typed (data_type_of t x) && only_ids (path_of t x)) ≡ true → e.settled ≡ true
-SettledBy t (answer.NeedMore missing) e = Unit {0}
-SettledBy t answer.Finished e = Unit {0}
-SettledBy t (answer.Refused r) e = Unit {0}
+abbrev pub SettledBy : List Entry → Result Answer Refusal → TagDecoder → Type 0
+SettledBy t (Ok (answer.Event (event.Start x o))) e = e.settled ≡ true
+SettledBy t (Ok (answer.Event (event.End end))) e = Unit {0}
+SettledBy t (Ok (answer.Event (event.Data x o v))) e = (is_typed (data_type_of t x) && only_ids (path_of t x)) ≡ true → e.settled ≡ true
+SettledBy t (Ok (answer.NeedMore missing)) e = Unit {0}
+SettledBy t (Ok answer.Finished) e = Unit {0}
+SettledBy t (Err r) e = Unit {0}
 
 -- an End closes with those that still wait, of which the outermost of known size is full: l are the open Starts and the
 -- implied parents
@@ -139,14 +138,14 @@ BatchEvent l p (event.End end) e = ended_by p (outermost_end (take (e.waiting_co
 BatchEvent l p (event.Data x o v) e = Unit {0}
 
 -- the same of an answer
-abbrev pub Batch : List Started → ℕ → Answer → TagDecoder → Type 0
-Batch l p (answer.Event x) e = BatchEvent l p x e
-Batch l p (answer.NeedMore missing) e = Unit {0}
-Batch l p answer.Finished e = Unit {0}
-Batch l p (answer.Refused r) e = Unit {0}
+abbrev pub Batch : List Started → ℕ → Result Answer Refusal → TagDecoder → Type 0
+Batch l p (Ok (answer.Event x)) e = BatchEvent l p x e
+Batch l p (Ok (answer.NeedMore missing)) e = Unit {0}
+Batch l p (Ok answer.Finished) e = Unit {0}
+Batch l p (Err r) e = Unit {0}
 
 -- a call answers a, takes n bytes and leaves the record e
-pub record Called (t : List Entry) (set : Settings) (s : List ℕ) (starts : List Started) (left : List ℕ) (p : ℕ) (a : Answer) (n : ℕ) (e : TagDecoder) : Type 0 where
+pub record Called (t : List Entry) (set : Settings) (s : List ℕ) (starts : List Started) (left : List ℕ) (p : ℕ) (a : Result Answer Refusal) (n : ℕ) (e : TagDecoder) : Type 0 where
   pub promised : AnswerFacts t set.allow_oversized s starts left p a
   pub quiet : Quiet a n e
   pub measured : Measured set.strict t s p a n
@@ -210,7 +209,7 @@ module _ (t : List Entry) (d : TagDecoder) (s : List ℕ) (starts : List Started
   same_place : Tied t d starts left (d.position + 0)
   same_place = let e : d.position ≡ d.position + 0 = omega arith in subst (Tied t d starts left) e k
 
-  refused_called : (e : DecodeError) (q : ℕ) → Mild d e → Called t d.settings s starts left d.position (answer.Refused (record { error = e; place = q })) 0 d
+  refused_called : (e : DecodeError) (q : ℕ) → Mild d e → Called t d.settings s starts left d.position (Err (record { error = e; place = q })) 0 d
   refused_called e q m = record {
     promised = record {
       not_10 = m.not_10;
@@ -227,14 +226,14 @@ module _ (t : List Entry) (d : TagDecoder) (s : List ℕ) (starts : List Started
     kept = refl;
   }
 
-  more_called : {m : ℕ} → Reading d → Called t d.settings s starts left d.position (answer.NeedMore m) 0 d
+  more_called : {m : ℕ} → Reading d → Called t d.settings s starts left d.position (Ok (answer.NeedMore m)) 0 d
   more_called r = record { promised = tt; quiet = (refl, r.none_waiting); measured = tt; settles = tt; batch = tt; tied = same_place; closes_full = k.full; kept = refl }
 
-  finished_called : d.waiting_count ≡ 0 → d.finished ≡ true → Called t d.settings s starts left d.position answer.Finished 0 d
+  finished_called : d.waiting_count ≡ 0 → d.finished ≡ true → Called t d.settings s starts left d.position (Ok answer.Finished) 0 d
   finished_called w f = record { promised = no_starts starts (omega (arith, k.finished f)); quiet = (refl, w, f); measured = tt; settles = tt; batch = tt; tied = same_place; closes_full = k.full; kept = refl }
 
   handed_called : 0 < d.waiting_count
-      → Called t d.settings s starts left d.position (answer.Event (event.End (get_or d.waiting 0 no_end))) 0 (handed_out d)
+      → Called t d.settings s starts left d.position (Ok (answer.Event (event.End (get_or d.waiting 0 no_end)))) 0 (handed_out d)
   unfolding handed_out with_waiting
   handed_called h =
       let o = handed_linked t d starts left d.position k.linked h in
@@ -258,7 +257,7 @@ module _ (t : List Entry) (d : TagDecoder) (s : List ℕ) (starts : List Started
       }
 
   closed_called : (n : ℕ) → n < d.open_count → Closes t d s n
-      → Called t d.settings s starts left d.position (answer.Event (event.End (get_or (ends_from d n) 0 no_end))) 0 (closed_to d n)
+      → Called t d.settings s starts left d.position (Ok (answer.Event (event.End (get_or (ends_from d n) 0 no_end)))) 0 (closed_to d n)
   unfolding closed_to with_open with_waiting
   closed_called n h f =
       let r = f.reading in
@@ -289,13 +288,13 @@ module _ (t : List Entry) (d : TagDecoder) (s : List ℕ) (starts : List Started
       rw e (tested t d starts left d.position k.linked w (reaches (d.position + (len + n))) (λ m. reaches_to (d.position + (len + n)) m.end) (reaches_to_lem (d.position + (len + n))) (i off))
 
   started_called : (x : ℕ) (z : EBMLSize) (len : ℕ) → d.open_count < 32 → d.position + len ≤ 2 ^ 62 → Starts t d s x z len
-      → Called t d.settings s starts left d.position (answer.Event (event.Start x d.position)) len (opened (counted (at_position d (d.position + len))) (master_at x z d.position len))
+      → Called t d.settings s starts left d.position (Ok (answer.Event (event.Start x d.position))) len (opened (counted (at_position d (d.position + len))) (master_at x z d.position len))
   unfolding counted opened with_open with_notes
   started_called x z len few near f =
       let e = counted (at_position d (d.position + len)) in
       let m = master_at x z d.position len in
       let taken = counted_linked t d starts left d.position k.linked (d.position + len) (omega (arith, f.some)) near in
-      let is : as_started m ≡ record { id = x; offset = d.position; end = declared_end t d.position s } = open_started x d.position len z ∙ ap (λ (g : Optional). record { id = x; offset = d.position; end = g }) (sym f.end) in
+      let is : as_started m ≡ record { id = x; offset = d.position; end = declared_end t d.position s } = open_started x d.position len z ∙ ap (λ (g : Option ℕ). record { id = x; offset = d.position; end = g }) (sym f.end) in
       let master : is_master (data_type_of t m.id) ≡ true = rw (open_id x d.position len z) (is_master_lem _ f.master) in
       record {
         promised = (f.master, record { heads = f.heads; offset = refl; inside = rw f.end (ends_inside z len f.reading.none_waiting f.inside) });
@@ -315,7 +314,7 @@ module _ (t : List Entry) (d : TagDecoder) (s : List ℕ) (starts : List Started
       }
 
   data-called : (x : ℕ) (v : TagValue) (n : ℕ) → d.position + n ≤ 2 ^ 62 → Holds t d s x v n
-      → Called t d.settings s starts left d.position (answer.Event (event.Data x d.position v)) n (counted (at_position d (d.position + n)))
+      → Called t d.settings s starts left d.position (Ok (answer.Event (event.Data x d.position v))) n (counted (at_position d (d.position + n)))
   unfolding counted with_open with_notes
   data-called x v n near f =
       record {
@@ -334,20 +333,20 @@ module _ (t : List Entry) (d : TagDecoder) (s : List ℕ) (starts : List Started
         kept = refl;
       }
     where
-      inside_all : Ends d.settings.allow_oversized (Number (d.position + n)) starts
+      inside_all : Ends d.settings.allow_oversized (Some (d.position + n)) starts
       inside_all off = tested t d starts left d.position k.linked f.reading.none_waiting (reaches (d.position + n)) (λ m. reaches_to (d.position + n) m.end) (reaches_to_lem (d.position + n)) (f.inside off)
 
   -- what each action promises
-  pub move_called : (a : Action) → ActionApplies d (length s) a → Facts t d s a
+  pub move_called : (a : Result Action DecodeError) → ActionApplies d (length s) a → Facts t d s a
       → Called t d.settings s starts left d.position (move d a).answer (move d a).taken (move d a).state
   unfolding move
-  move_called (act.Refuse e) g f = refused_called e d.position f
-  move_called (act.NeedMore missing) g f = more_called f
-  move_called act.Finish g f = finished_called f.0 f.1
-  move_called act.HandOut g f = handed_called (hands_out d (length s) g)
-  move_called (act.Close n) g f = closed_called n (closes d (length s) n g).0 f
-  move_called (act.Start x z len) g f = started_called x z len (start_fits d (length s) x z len g).0 (start_fits d (length s) x z len g).1 f
-  move_called (act.Data x v n) g f = data-called x v n (passes_on d (length s) x v n g) f
+  move_called (Err e) g f = refused_called e d.position f
+  move_called (Ok (act.NeedMore missing)) g f = more_called f
+  move_called (Ok act.Finish) g f = finished_called f.0 f.1
+  move_called (Ok act.HandOut) g f = handed_called (hands_out d (length s) g)
+  move_called (Ok (act.Close n)) g f = closed_called n (closes d (length s) n g).0 f
+  move_called (Ok (act.Start x z len)) g f = started_called x z len (start_fits d (length s) x z len g).0 (start_fits d (length s) x z len g).1 f
+  move_called (Ok (act.Data x v n)) g f = data-called x v n (passes_on d (length s) x v n g) f
 
 -- ---- the note
 
@@ -358,11 +357,11 @@ unsettled_waiting t d starts left p k u =
     sym (waits-length d k.arrays k.good.waiting_count) ∙ sym (length-map (waits d) named) ∙ ap length (sym k.waiting) ∙ ap (λ (l : List Started). length (map as_end l)) none
 
 -- the record with the note is tied, with the parents that the note implies
-pub noted_tied : (ps : List ℕ) (t : List Entry) (d : TagDecoder) (starts : List Started) (left : List ℕ) (p : ℕ) (n : Note) → NoteFacts ps t d n → Tied t d starts left p
+pub noted_tied : (ps : List ℕ) (t : List Entry) (d : TagDecoder) (starts : List Started) (left : List ℕ) (p : ℕ) (n : Option Path) → NoteFacts ps t d n → Tied t d starts left p
     → Tied t (noted ps d n) starts (implied_by ps n ++ left) p
 unfolding noted implied_by settled_to with_open with_notes
-noted_tied ps t d starts left p NoNote f k = k
-noted_tied ps t d starts left p (Settle path) f k = record {
+noted_tied ps t d starts left p None f k = k
+noted_tied ps t d starts left p (Some path) f k = record {
   linked = settled_linked t d starts left p k.linked (parts_in (parts_of ps) path) f.unsettled f.masters f.short;
   finished = k.finished;
   full = k.full;
@@ -421,7 +420,7 @@ module _ (t : List Entry) (d : TagDecoder) (s : List ℕ) (starts : List Started
   few_starts = omega (arith, stack_length t d starts left d.position k.linked none, length-append starts (map parent_of left))
 
   module _ (full : all_ended d.position starts ≡ true) where
-    finish_called : d.open_count ≡ 0 → Ended (gives answer.Finished 0 (ending d))
+    finish_called : d.open_count ≡ 0 → Ended (gives (Ok answer.Finished) 0 (ending d))
     unfolding with_notes
     finish_called n =
         let z : d.position ≡ d.position + 0 = omega arith in
@@ -441,7 +440,7 @@ module _ (t : List Entry) (d : TagDecoder) (s : List ℕ) (starts : List Started
           kept = refl;
         }
 
-    close_called : 0 < d.open_count → Ended (move (ending d) (act.Close 0))
+    close_called : 0 < d.open_count → Ended (move (ending d) (Ok (act.Close 0)))
     unfolding move with_notes closed_to with_open with_waiting
     close_called n =
         let z : d.position ≡ d.position + 0 = omega arith in
@@ -476,18 +475,18 @@ module _ (t : List Entry) (d : TagDecoder) (s : List ℕ) (starts : List Started
 -- ---- a decode call, and the end of input
 
 -- after such an answer no End waits
-pub quiet_waits : (a : Answer) (n : ℕ) (e : TagDecoder) → Quiet a n e → is_quiet a ≡ true → e.waiting_count ≡ 0
-quiet_waits (answer.Event x) n e f q = absurd (false≢true q)
-quiet_waits (answer.NeedMore missing) n e f q = f.1
-quiet_waits answer.Finished n e f q = f.1
-quiet_waits (answer.Refused x) n e f q = absurd (false≢true q)
+pub quiet_waits : (a : Result Answer Refusal) (n : ℕ) (e : TagDecoder) → Quiet a n e → is_quiet a ≡ true → e.waiting_count ≡ 0
+quiet_waits (Ok (answer.Event x)) n e f q = absurd (false≢true q)
+quiet_waits (Ok (answer.NeedMore missing)) n e f q = f.1
+quiet_waits (Ok answer.Finished) n e f q = f.1
+quiet_waits (Err x) n e f q = absurd (false≢true q)
 
 -- an answer after which the end of input is looked at hands nothing over
-pub quiet_no_event : (a : Answer) → is_quiet a ≡ true → is_no_event a ≡ true
-quiet_no_event (answer.Event x) q = q
-quiet_no_event (answer.NeedMore missing) q = refl
-quiet_no_event answer.Finished q = refl
-quiet_no_event (answer.Refused x) q = refl
+pub quiet_no_event : (a : Result Answer Refusal) → is_quiet a ≡ true → is_no_event a ≡ true
+quiet_no_event (Ok (answer.Event x)) q = q
+quiet_no_event (Ok (answer.NeedMore missing)) q = refl
+quiet_no_event (Ok answer.Finished) q = refl
+quiet_no_event (Err x) q = refl
 
 module _ (es ps : List ℕ) (shape : good_shape es ps ≡ true) (passed : PassedTable (table_of es ps)) (d : TagDecoder) (s : List ℕ) (byte : Octets s)
     (starts : List Started) (left : List ℕ) (p : ℕ) (k : Tied (table_of es ps) d starts left p) where

@@ -12,7 +12,6 @@ use Rattle.basics.specs.Lists.{every}
 use Rattle.table.specs.Table.{Entry, data_type_of, is_master}
 use Rattle.spec_util.specs.declared.types.OpenTag.{OpenTag}
 use Rattle.decoder_rules.specs.Record.{opens, end_of, fresh, waits}
-use Rattle.decoder_rules.specs.declared.types.Optional.TheVariants.{Nothing}
 use Rattle.decoder_rules.specs.declared.types.WaitingEnd.{WaitingEnd}
 use Rattle.decoder_rules.specs.declared.types.TagDecoder.{TagDecoder}
 use Rattle.decoder_rules.proofs.GoodState.{GoodState}
@@ -22,6 +21,7 @@ use Rattle.guarantees.specs.History.{Started, outermost_end, left_by_end}
 use Rattle.guarantees.specs.Promises.{EndMatches}
 use Rattle.guarantees.proofs.Ends.{known_end, ended_by}
 use Rattle.decoder_rules.proofs.Exits.{all_masters}
+use Rattle.std.specs.Prelude.{None}
 
 -- ---- an open master as a caller saw it start
 
@@ -31,7 +31,7 @@ as_started m = record { id = m.id; offset = m.tag_start; end = known_end m.known
 
 -- an implied parent: offset 0, size unknown
 abbrev pub parent_of : ℕ → Started
-parent_of x = record { id = x; offset = 0; end = Nothing }
+parent_of x = record { id = x; offset = 0; end = None }
 
 -- what its End names: its ID and where it started
 abbrev pub as_end : Started → ℕ × ℕ

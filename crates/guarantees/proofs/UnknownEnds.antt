@@ -20,7 +20,6 @@ use Rattle.basics.proofs.Every.{every_member, every_map}
 use Rattle.basics.proofs.Maps.{take-map}
 use Rattle.table.specs.Check.{check_table}
 use Rattle.table.specs.Table.{Entry, table_of, data_type_of, is_master}
-use Rattle.table.specs.declared.types.Checked.TheVariants.{Passed}
 use Rattle.table.specs.declared.types.TagDataType.TheVariants.{Master}
 use Rattle.table.proofs.Passed.{passed_gives}
 use Rattle.table.proofs.Rules.{master_is}
@@ -29,17 +28,12 @@ use Rattle.spec_util.specs.Walk.{no_tag, unknown_and_ended, ended_tops}
 use Rattle.spec_util.specs.declared.types.OpenTag.{OpenTag}
 use Rattle.spec_util.proofs.StrictEndings.{strictly_as_rfc}
 use Rattle.tag_parse.specs.Header.{read_header}
-use Rattle.tag_parse.specs.declared.types.ReadHeader.TheVariants.{Header}
 use Rattle.tag_parse.specs.declared.types.TagHeader.{TagHeader}
 use Rattle.decoder_rules.specs.Record.{opens, end_of}
 use Rattle.decoder_rules.specs.OneCall.{check_record10to12, is_full, step3, noted, step10}
 use Rattle.decoder_rules.specs.Deciding.{decide}
 use Rattle.decoder_rules.specs.declared.types.Answer.TheVariants as answer
-use Rattle.decoder_rules.specs.declared.types.Check.{Check}
-use Rattle.decoder_rules.specs.declared.types.Check.TheVariants.{Pass, Fail}
 use Rattle.decoder_rules.specs.declared.types.Event.TheVariants as event
-use Rattle.decoder_rules.specs.declared.types.Optional.{Optional}
-use Rattle.decoder_rules.specs.declared.types.Optional.TheVariants.{Nothing, Number}
 use Rattle.decoder_rules.specs.declared.types.Search.TheVariants as search
 use Rattle.decoder_rules.specs.declared.types.Settings.{Settings}
 use Rattle.decoder_rules.specs.declared.types.TagDecoder.{TagDecoder}
@@ -60,6 +54,9 @@ use Rattle.guarantees.proofs.Notes.{search_note_or, note_of}
 use Rattle.guarantees.proofs.Steps.{stack_is, stack_length, noted_tied, unsettled_waiting}
 use Rattle.guarantees.proofs.Tied.{as_started, stack, Tied}
 use Rattle.guarantees.proofs.WaitingEnds.{tells_no_event, tells_end, is_ending, as_decided, at_end, Moved, no_event, element, hands_out, closes, next_moved}
+use Rattle.std.specs.Prelude.{Err, None, Ok, Option, Result, Some, ⊤}
+use Rattle.decoder_rules.specs.declared.types.DecodeError.{DecodeError}
+use Rattle.tools.specs.declared.status.Status.TheVariants as status
 
 -- ---- lists
 
@@ -115,20 +112,20 @@ record Full (p : ℕ) (l : List Started) : Type 0 where
   parent : Started
   end : ℕ
   stands : Memᴰ parent l
-  known : parent.end ≡ Number end
+  known : parent.end ≡ Some end
   past : end ≤ p
 
 -- a master of unknown size that closes by position stands inside one that is full
 full_around : (p : ℕ) (l : List OpenTag) (inside : List Started) (m : Started) (around : List Started) → map as_started (reverse l) ≡ inside ++ m ∷ around → first_index (is_full p) l < length l
-    → first_index (is_full p) l ≤ length around → m.end ≡ Nothing → Full p around
+    → first_index (is_full p) l ≤ length around → m.end ≡ None → Full p around
 unfolding is_full
 full_around p l inside m around e h n u =
     let i = first_index (is_full p) l in
     let o = get_or l i no_tag in
     let b = both o.known (leb (end_of o) p) (first_passes (is_full p) l no_tag h) in
-    let known : (as_started o).end ≡ Number (end_of o) = ap (λ (k : Bool). known_end k (end_of o)) b.left in
+    let known : (as_started o).end ≡ Some (end_of o) = ap (λ (k : Bool). known_end k (end_of o)) b.left in
     let few : length (map as_started (reverse (take i l))) ≤ length around = simp (length-map, length-reverse, length-take) (omega arith) in
-    ⊎_elim (λ (q : as_started o ≡ m). let z : Nothing ≡ Number (end_of o) = sym u ∙ ap (λ (x : Started). x.end) (sym q) ∙ known in let y : ◌≡◌ {A = ℕ} 0 1 = cc in absurd_eq y)
+    ⊎_elim (λ (q : as_started o ≡ m). let z : None ≡ Some (end_of o) = sym u ∙ ap (λ (x : Started). x.end) (sym q) ∙ known in let y : ◌≡◌ {A = ℕ} 0 1 = cc in absurd_eq y)
     (λ (s : Memᴰ (as_started o) around). record { parent = as_started o; end = end_of o; stands = s; known = known; past = leb-true _ _ b.right })
     (after_or_same (map as_started (reverse (drop (suc i) l))) (as_started o) (map as_started (reverse (take i l))) inside m around (sym (reversed_at l i h) ∙ e) few)
 
@@ -156,7 +153,7 @@ ending_none (allow ids hierarchy oversized) e q = absurd (false≢true e)
 ending_none (strictly b) e q = absurd (false≢true e)
 ending_none (limit n) e q = absurd (false≢true e)
 
-module _ (es ps : List ℕ) (checked : check_table es ps ≡ Passed) where
+module _ (es ps : List ℕ) (checked : check_table es ps ≡ (Ok tt)) where
   abbrev t : List Entry
   t = table_of es ps
 
@@ -170,9 +167,9 @@ module _ (es ps : List ℕ) (checked : check_table es ps ≡ Passed) where
   note_facts d k (ending s) byte = decided_note d k s byte
   note_facts d k (recovering s) byte = go (check_record10to12 es ps d (length s))
     where
-      go : (x : Check) → NoteFacts ps t d (search_note_or ps t d s x)
-      go Pass = note_holds t d (NoteFacts ps t d) tt (λ r h e. step7_facts es ps (good_shape_lem es ps checked) (passed_gives es ps checked) r h e d) s _
-      go (Fail e) = tt
+      go : (x : Result ⊤ DecodeError) → NoteFacts ps t d (search_note_or ps t d s x)
+      go (Ok _) = note_holds t d (NoteFacts ps t d) tt (λ r h e. step7_facts es ps (good_shape_lem es ps checked) (passed_gives es ps checked) r h e d) s _
+      go (Err e) = tt
   note_facts d k (allow ids hierarchy oversized) byte = tt
   note_facts d k (strictly b) byte = tt
   note_facts d k (limit n) byte = tt
@@ -200,7 +197,7 @@ module _ (es ps : List ℕ) (checked : check_table es ps ≡ Passed) where
 
     -- ---- strictly
 
-    module _ (strict : is_strict_after (history es ps cs) ≡ true) (m : Started) (around : List Started) (unknown : m.end ≡ Nothing) (closing : Closes es ps cs c m around) where
+    module _ (strict : is_strict_after (history es ps cs) ≡ true) (m : Started) (around : List Started) (unknown : m.end ≡ None) (closing : Closes es ps cs c m around) where
       none : there.waiting_count ≡ 0
       none = waits_there ∙ closing.none_waits
 
@@ -232,7 +229,7 @@ module _ (es ps : List ℕ) (checked : check_table es ps ≡ Passed) where
           by_known_end f.parent f.end f.stands f.known (omega (arith, f.past, standing_tied.linked.place))
 
       -- by the next ID
-      id_62 : (h : TagHeader) → read_header t (lent c) ≡ Header h → step10 t there h.id ≤ length around → EndsBy62 es ps cs c m around
+      id_62 : (h : TagHeader) → read_header t (lent c) ≡ Ok (status.Complete h) → step10 t there h.id ≤ length around → EndsBy62 es ps cs c m around
       unfolding is_ended_in
       id_62 h is n =
           let more : length closing.inside < ended_tops there.settings.strict t h.id (reverse (opens there)) = omega (arith, open_count) in
@@ -251,49 +248,49 @@ module _ (es ps : List ℕ) (checked : check_table es ps ≡ Passed) where
       by_moved (closes q w k o n (at_end over e)) = by_end_of_input (ending_none c over e)
 
     -- a call that closes such a master does so by one of the cases
-    closes_by : is_strict_after (history es ps cs) ≡ true → (m : Started) (around : List Started) → m.end ≡ Nothing → Closes es ps cs c m around → EndsBy62 es ps cs c m around
+    closes_by : is_strict_after (history es ps cs) ≡ true → (m : Started) (around : List Started) → m.end ≡ None → Closes es ps cs c m around → EndsBy62 es ps cs c m around
     closes_by strict m around unknown closing = by_moved strict m around unknown closing moved
 
 -- ---- what is told, and the masters that stand
 
 -- an End takes the first away
 ends_first : (t : List Entry) (s : List ℕ) (x : Response) (starts : List Started) (left : List ℕ) → tells_end x ≡ true → stack (after_response t s x starts) (left_by x starts left) ≡ drop 1 (stack starts left)
-ends_first t s (answered (answer.Event (event.Start x o)) n) starts left e = absurd (false≢true e)
-ends_first t s (answered (answer.Event (event.End end)) n) [] [] e = refl
-ends_first t s (answered (answer.Event (event.End end)) n) [] (y ∷ left) e = refl
-ends_first t s (answered (answer.Event (event.End end)) n) (m ∷ starts) left e = refl
-ends_first t s (answered (answer.Event (event.Data x o v)) n) starts left e = absurd (false≢true e)
-ends_first t s (answered (answer.NeedMore missing) n) starts left e = absurd (false≢true e)
-ends_first t s (answered answer.Finished n) starts left e = absurd (false≢true e)
-ends_first t s (answered (answer.Refused r) n) starts left e = absurd (false≢true e)
+ends_first t s (answered (Ok (answer.Event (event.Start x o))) n) starts left e = absurd (false≢true e)
+ends_first t s (answered (Ok (answer.Event (event.End end))) n) [] [] e = refl
+ends_first t s (answered (Ok (answer.Event (event.End end))) n) [] (y ∷ left) e = refl
+ends_first t s (answered (Ok (answer.Event (event.End end))) n) (m ∷ starts) left e = refl
+ends_first t s (answered (Ok (answer.Event (event.Data x o v))) n) starts left e = absurd (false≢true e)
+ends_first t s (answered (Ok (answer.NeedMore missing)) n) starts left e = absurd (false≢true e)
+ends_first t s (answered (Ok answer.Finished) n) starts left e = absurd (false≢true e)
+ends_first t s (answered (Err r) n) starts left e = absurd (false≢true e)
 ends_first t s (searched a n) starts left e = absurd (false≢true e)
 ends_first t s silent starts left e = absurd (false≢true e)
 
 -- a recovery leaves a master of unknown size as it is
-same_later : (n : ℕ) (a m : Started) → m ≡ later n a → m.end ≡ Nothing → m ≡ a
+same_later : (n : ℕ) (a m : Started) → m ≡ later n a → m.end ≡ None → m ≡ a
 unfolding later
 same_later n a m e u = e ∙ go a.end refl (ap (λ (x : Started). x.end) (sym e) ∙ u)
   where
-    go : (g : Optional) → a.end ≡ g → later_end n g ≡ Nothing → later n a ≡ a
-    go Nothing q z = ap (λ (g : Optional). record { id = a.id; offset = a.offset; end = g }) (ap (later_end n) q ∙ sym q)
-    go (Number f) q z = let y : ◌≡◌ {A = ℕ} 0 1 = cc in absurd_eq y
+    go : (g : Option ℕ) → a.end ≡ g → later_end n g ≡ None → later n a ≡ a
+    go None q z = ap (λ (g : Option ℕ). record { id = a.id; offset = a.offset; end = g }) (ap (later_end n) q ∙ sym q)
+    go (Some f) q z = let y : ◌≡◌ {A = ℕ} 0 1 = cc in absurd_eq y
 
-unknown_later : (n : ℕ) (m : Started) → m.end ≡ Nothing → (l : List Started) → Memᴰ m (map (later n) l) → Memᴰ m l
+unknown_later : (n : ℕ) (m : Started) → m.end ≡ None → (l : List Started) → Memᴰ m (map (later n) l) → Memᴰ m l
 unknown_later n m u [] i = absurd (mathlib.Core.List.Memᴰ.not-nil i)
 unknown_later n m u (a ∷ l) i =
     ⊎_elim (λ (e : m ≡ later n a). mathlib.Core.List.Memᴰ.head (same_later n a m e u)) (λ (j : Memᴰ m (map (later n) l)). mathlib.Core.List.Memᴰ.tail (unknown_later n m u l j)) (mathlib.Core.List.Memᴰ.cases_cons i)
 
 -- without an event the masters of unknown size stand as they stood
-none_gone : (t : List Entry) (s : List ℕ) (x : Response) (starts : List Started) (left : List ℕ) → tells_no_event x ≡ true → (w : ℕ) (m : Started) → m.end ≡ Nothing
+none_gone : (t : List Entry) (s : List ℕ) (x : Response) (starts : List Started) (left : List ℕ) → tells_no_event x ≡ true → (w : ℕ) (m : Started) → m.end ≡ None
     → Memᴰ m (take w (stack (after_response t s x starts) (left_by x starts left))) → Memᴰ m (take w (stack starts left))
-none_gone t s (answered (answer.Event x) n) starts left e w m u i = absurd (false≢true e)
-none_gone t s (answered (answer.NeedMore missing) n) starts left e w m u i = i
-none_gone t s (answered answer.Finished n) starts left e w m u i = i
-none_gone t s (answered (answer.Refused r) n) starts left e w m u i = i
-none_gone t s (searched (search.Found n) k) starts left e w m u i =
+none_gone t s (answered (Ok (answer.Event x)) n) starts left e w m u i = absurd (false≢true e)
+none_gone t s (answered (Ok (answer.NeedMore missing)) n) starts left e w m u i = i
+none_gone t s (answered (Ok answer.Finished) n) starts left e w m u i = i
+none_gone t s (answered (Err r) n) starts left e w m u i = i
+none_gone t s (searched (Ok (search.Found n)) k) starts left e w m u i =
     unknown_later n m u (take w (stack starts left)) (subst (Memᴰ m) (ap (take w) (stack_later n starts left) ∙ take-map (later n) w (stack starts left)) i)
-none_gone t s (searched (search.NotFound n) k) starts left e w m u i = i
-none_gone t s (searched (search.Refused r) k) starts left e w m u i = i
+none_gone t s (searched (Ok (search.NotFound n)) k) starts left e w m u i = i
+none_gone t s (searched (Err r) k) starts left e w m u i = i
 none_gone t s silent starts left e w m u i = i
 
 -- who is among the first w after the first is among the first w + 1
@@ -308,22 +305,22 @@ some_taken (suc w) l i = omega arith
 
 -- an End is an event
 no_end : (x : Response) → tells_no_event x ≡ true → tells_end x ≡ true → ⊥
-no_end (answered (answer.Event x) n) e f = false≢true e
-no_end (answered (answer.NeedMore missing) n) e f = false≢true f
-no_end (answered answer.Finished n) e f = false≢true f
-no_end (answered (answer.Refused r) n) e f = false≢true f
+no_end (answered (Ok (answer.Event x)) n) e f = false≢true e
+no_end (answered (Ok (answer.NeedMore missing)) n) e f = false≢true f
+no_end (answered (Ok answer.Finished) n) e f = false≢true f
+no_end (answered (Err r) n) e f = false≢true f
 no_end (searched a n) e f = false≢true f
 no_end silent e f = false≢true f
 
 -- ---- any calls
 
-module _ (es ps : List ℕ) (checked : check_table es ps ≡ Passed) where
+module _ (es ps : List ℕ) (checked : check_table es ps ≡ (Ok tt)) where
   -- a master of unknown size whose End waits after these calls closed in them
   abbrev Held : List Call → Type 0
-  Held cs = (m : Started) → m.end ≡ Nothing
+  Held cs = (m : Started) → m.end ≡ None
       → Memᴰ m (take (record_after es ps cs).waiting_count (stack (open_at es ps cs) (parents_left ps (table_of es ps) (history es ps cs)))) → ClosedIn es ps cs m
 
-  module _ (cs : List Call) (c : Call) (octets : Lent (c ∷ cs)) (held : Held cs) (m : Started) (unknown : m.end ≡ Nothing) where
+  module _ (cs : List Call) (c : Call) (octets : Lent (c ∷ cs)) (held : Held cs) (m : Started) (unknown : m.end ≡ None) where
     earlier : ClosedIn es ps cs m → ClosedIn es ps (c ∷ cs) m
     earlier k = record {
       later = c ∷ k.later;
@@ -411,11 +408,11 @@ module _ (es ps : List ℕ) (checked : check_table es ps ≡ Passed) where
   held_after [] l m u i = absurd (mathlib.Core.List.Memᴰ.not-nil i)
   held_after (c ∷ cs) l m u i = waits_on cs c l (held_after cs l.1) m u i
 
-  end_by_62 : (cs : List Call) (c : Call) → Lent (c ∷ cs) → (end : WaitingEnd) → Answers es ps cs c (answer.Event (event.End end)) → (m : Started) (around : List Started)
-      → standing_at es ps cs c ≡ m ∷ around → m.end ≡ Nothing → ClosedIn es ps (c ∷ cs) m
+  end_by_62 : (cs : List Call) (c : Call) → Lent (c ∷ cs) → (end : WaitingEnd) → Answers es ps cs c (Ok (answer.Event (event.End end))) → (m : Started) (around : List Started)
+      → standing_at es ps cs c ≡ m ∷ around → m.end ≡ None → ClosedIn es ps (c ∷ cs) m
   unfolding Lent
   end_by_62 cs c l end a m around e u = told_or_waits cs c l (held_after cs l.1) m u (ap tells_end a.1) (rw (e, add-one) (mathlib.Core.List.Memᴰ.head refl))
 
 -- the statement
-pub unknown_ends : (es ps : List ℕ) → check_table es ps ≡ Passed → UnknownEnds es ps
+pub unknown_ends : (es ps : List ℕ) → check_table es ps ≡ Ok tt → UnknownEnds es ps
 unknown_ends es ps checked = record { closes_by_62 = closes_by es ps checked; end_by_62 = end_by_62 es ps checked }

@@ -10,14 +10,16 @@ use Rattle.table.specs.BenchTable.{bench_entries, bench_parts}
 use Rattle.table.specs.Table.{data_type_of, is_typed}
 use Rattle.spec_util.specs.Rfc8794.{EndsUnknownSize, a_parent, a_sibling, a_root}
 use Rattle.basics.proofs.Bools.{absurd_eq}
-use Rattle.tag_parse.specs.declared.types.ReadHeader.{ReadHeader}
-use Rattle.tag_parse.specs.declared.types.ReadHeader.TheVariants as header
-use Rattle.decoder_rules.specs.declared.types.Optional.TheVariants.{Nothing, Number}
 use Rattle.guarantees.specs.Calls.{Call, decoding, ending, allow, strictly}
 use Rattle.guarantees.specs.History.{Started}
 use Rattle.guarantees.specs.UnknownEnds.{Closes, EndsBy62, by_element, by_known_end, by_end_of_input}
 use Rattle.guarantees.proofs.Computing.{history_computes}
 use Rattle.guarantees.proofs.Examples.{bench}
+use Rattle.std.specs.Prelude.{Err, None, Ok, Result, Some}
+use Rattle.tag_parse.specs.declared.types.ParseError.{ParseError}
+use Rattle.tools.specs.declared.status.Status.{Status}
+use Rattle.tag_parse.specs.declared.types.TagHeader.{TagHeader}
+use Rattle.tools.specs.declared.status.Status.TheVariants as status
 
 -- ---- the calls, latest first
 
@@ -45,10 +47,10 @@ untyped = decoding (0x81 ∷ 0x80 ∷ [])
 
 -- the masters as their Starts
 abbrev the_session : Started
-the_session = record { id = 0x4E01; offset = 0; end = Nothing }
+the_session = record { id = 0x4E01; offset = 0; end = None }
 
 abbrev the_feed : Started
-the_feed = record { id = 0xA1; offset = 3; end = Nothing }
+the_feed = record { id = 0xA1; offset = 3; end = None }
 
 -- ---- the list
 
@@ -58,7 +60,7 @@ pub record UnknownEndsExamples : Type 0 where
   pub feed_at_root : Closes bench_entries bench_parts (feed (session (strictly true ∷ []))) another the_feed (the_session ∷ [])
   pub session_at_root : Closes bench_entries bench_parts (feed (session (strictly true ∷ []))) another the_session []
   -- by a known end: the Feed closes with the Session around it, which is full
-  pub at_known_end : Closes bench_entries bench_parts filled (decoding []) the_feed (record { id = 0x4E01; offset = 0; end = Number 5 } ∷ [])
+  pub at_known_end : Closes bench_entries bench_parts filled (decoding []) the_feed (record { id = 0x4E01; offset = 0; end = Some 5 } ∷ [])
   -- by the end of input
   pub at_end_of_input : Closes bench_entries bench_parts (session (strictly true ∷ [])) (ending []) the_session []
   -- as ported an ID without type ends a root, where no case of section 6.2 holds
@@ -68,10 +70,10 @@ pub record UnknownEndsExamples : Type 0 where
 -- ---- D10
 
 -- the ID of a header, if one was read
-abbrev id_of : ReadHeader → ℕ
-id_of (header.NeedMore missing) = 0
-id_of (header.Refused e) = 0
-id_of (header.Header h) = h.id
+abbrev id_of : Result (Status TagHeader) ParseError → ℕ
+id_of (Ok (status.NeedMore missing)) = 0
+id_of (Err e) = 0
+id_of (Ok (status.Complete h)) = h.id
 
 -- an ID without type ends no master by section 6.2
 ends_none : (x : ℕ) → is_typed (data_type_of bench x) ≡ false → EndsUnknownSize bench 0x4E01 x → ⊥

@@ -12,7 +12,6 @@ use Rattle.table.specs.Shape.{good_shape}
 use Rattle.table.specs.Check.{check_table}
 use Rattle.table.specs.Passed.{PassedTable}
 use Rattle.table.specs.Table.{Entry, table_of}
-use Rattle.table.specs.declared.types.Checked.TheVariants.{Passed}
 use Rattle.table.proofs.Passed.{passed_gives}
 use Rattle.decoder_rules.specs.Record.{with_settings, with_open, with_waiting, with_notes, counted, opened, closed_to, handed_out, with_sizes_grown}
 use Rattle.decoder_rules.specs.OneCall.{check_record10to12, noted}
@@ -25,12 +24,8 @@ use Rattle.decoder_rules.specs.declared.types.Action.{Action}
 use Rattle.decoder_rules.specs.declared.types.Action.TheVariants as act
 use Rattle.decoder_rules.specs.declared.types.Answer.{Answer}
 use Rattle.decoder_rules.specs.declared.types.Answer.TheVariants as answer
-use Rattle.decoder_rules.specs.declared.types.Check.{Check}
-use Rattle.decoder_rules.specs.declared.types.Check.TheVariants.{Pass, Fail}
 use Rattle.decoder_rules.specs.declared.types.Decoded.{Decoded}
 use Rattle.decoder_rules.specs.declared.types.Event.TheVariants as event
-use Rattle.decoder_rules.specs.declared.types.Optional.{Optional}
-use Rattle.decoder_rules.specs.declared.types.Optional.TheVariants.{Nothing, Number}
 use Rattle.decoder_rules.specs.declared.types.TagDecoder.{TagDecoder}
 use Rattle.decoder_rules.proofs.EndExits as end
 use Rattle.decoder_rules.proofs.EndExits.{EndExit, EofExit, eof_exits}
@@ -47,6 +42,9 @@ use Rattle.guarantees.proofs.Decided.{ClosesFor, Facts, decide_facts}
 use Rattle.guarantees.proofs.Notes.{search_note_or, note_of}
 use Rattle.guarantees.proofs.Steps.{quiet_none_waits}
 use Rattle.guarantees.proofs.Tied.{Tied}
+use Rattle.std.specs.Prelude.{Err, None, Ok, Option, Result, Some, ⊤}
+use Rattle.decoder_rules.specs.declared.types.DecodeError.{DecodeError}
+use Rattle.decoder_rules.specs.declared.types.Refusal.{Refusal}
 
 -- ---- what a call tells
 
@@ -57,13 +55,13 @@ tells_no_event (searched a n) = true
 tells_no_event silent = true
 
 -- an End
-abbrev pub is_end : Answer → Bool
-is_end (answer.Event (event.Start x o)) = false
-is_end (answer.Event (event.End end)) = true
-is_end (answer.Event (event.Data x o v)) = false
-is_end (answer.NeedMore missing) = false
-is_end answer.Finished = false
-is_end (answer.Refused r) = false
+abbrev pub is_end : Result Answer Refusal → Bool
+is_end (Ok (answer.Event (event.Start x o))) = false
+is_end (Ok (answer.Event (event.End end))) = true
+is_end (Ok (answer.Event (event.Data x o v))) = false
+is_end (Ok (answer.NeedMore missing)) = false
+is_end (Ok answer.Finished) = false
+is_end (Err r) = false
 
 -- the same of what any call tells
 abbrev pub tells_end : Response → Bool
@@ -95,15 +93,15 @@ pub data Moved (t : List Entry) (s : List ℕ) (over : Bool) (d : TagDecoder) (x
       → Moved t s over d x e
 
 module _ (t : List Entry) (s : List ℕ) (over : Bool) (d : TagDecoder) where
-  move_moved : (a : Action) → ActionApplies d (length s) a → Facts t d s a → Moved t s over d (answered (move d a).answer (move d a).taken) (move d a).state
+  move_moved : (a : Result Action DecodeError) → ActionApplies d (length s) a → Facts t d s a → Moved t s over d (answered (move d a).answer (move d a).taken) (move d a).state
   unfolding move counted opened handed_out closed_to with_open with_waiting with_notes
-  move_moved (act.Refuse e) g f = no_event refl refl refl
-  move_moved (act.NeedMore missing) g f = no_event refl refl refl
-  move_moved act.Finish g f = no_event refl refl refl
-  move_moved act.HandOut g f = hands_out refl (omega (arith, applies.hands_out d (length s) g))
-  move_moved (act.Close k) g f = closes refl f.reading.none_waiting k refl (omega (arith, (applies.closes d (length s) k g).0)) (as_decided f.why)
-  move_moved (act.Start x z len) g f = element refl f.reading.none_waiting f.reading.none_waiting (omega arith)
-  move_moved (act.Data x v n) g f = element refl f.reading.none_waiting f.reading.none_waiting (omega arith)
+  move_moved (Err e) g f = no_event refl refl refl
+  move_moved (Ok (act.NeedMore missing)) g f = no_event refl refl refl
+  move_moved (Ok act.Finish) g f = no_event refl refl refl
+  move_moved (Ok act.HandOut) g f = hands_out refl (omega (arith, applies.hands_out d (length s) g))
+  move_moved (Ok (act.Close k)) g f = closes refl f.reading.none_waiting k refl (omega (arith, (applies.closes d (length s) k g).0)) (as_decided f.why)
+  move_moved (Ok (act.Start x z len)) g f = element refl f.reading.none_waiting f.reading.none_waiting (omega arith)
+  move_moved (Ok (act.Data x v n)) g f = element refl f.reading.none_waiting f.reading.none_waiting (omega arith)
 
   -- the end of input, where no End waits
   ended_moved : over ≡ true → d.waiting_count ≡ 0 → {r : Decoded} → EndExit t d s r → Moved t s over d (answered r.answer r.taken) r.state
@@ -154,21 +152,21 @@ recovered_many es ps d s = go (check_record10to12 es ps d (length s)) refl
     i : ℕ
     i = first_place ps t d s
 
-    go : (c : Check) → check_record10to12 es ps d (length s) ≡ c → AsMany (noted ps d (search_note_or ps t d s c)) (try_recover es ps d s).state
-    go Pass e =
+    go : (c : Result ⊤ DecodeError) → check_record10to12 es ps d (length s) ≡ c → AsMany (noted ps d (search_note_or ps t d s c)) (try_recover es ps d s).state
+    go (Ok _) e =
         rw (recovery_is_first es ps d s e)
-        (standing_many (stands_at ps t d s i) i (noted ps d (search_note_or ps t d s Pass)) (record_on ps t d s (suc i) i) (record { waiting = refl; opened = refl }))
-    go (Fail x) e = rw e (record { waiting = refl; opened = refl })
+        (standing_many (stands_at ps t d s i) i (noted ps d (search_note_or ps t d s (Ok _))) (record_on ps t d s (suc i) i) (record { waiting = refl; opened = refl }))
+    go (Err x) e = rw e (record { waiting = refl; opened = refl })
 
 -- ---- any call
 
-limited_many : (d : TagDecoder) (n : Optional) → AsMany d (limited_to d n)
+limited_many : (d : TagDecoder) (n : Option ℕ) → AsMany d (limited_to d n)
 unfolding with_settings
-limited_many d Nothing = record { waiting = refl; opened = refl }
-limited_many d (Number n) = record { waiting = refl; opened = refl }
+limited_many d None = record { waiting = refl; opened = refl }
+limited_many d (Some n) = record { waiting = refl; opened = refl }
 
 -- what a call on a record that is tied makes of them
-pub next_moved : (es ps : List ℕ) → check_table es ps ≡ Passed → (d : TagDecoder) {starts : List Started} {left : List ℕ} {p : ℕ} → Tied (table_of es ps) d starts left p
+pub next_moved : (es ps : List ℕ) → check_table es ps ≡ Ok tt → (d : TagDecoder) {starts : List Started} {left : List ℕ} {p : ℕ} → Tied (table_of es ps) d starts left p
     → (c : Call) → Octets (lent c) → Moved (table_of es ps) (lent c) (is_ending c) (noted ps d (note_of es ps d c)) (response_to es ps d c) (next es ps d c)
 unfolding noted with_settings
 next_moved es ps checked d k (decoding s) byte = decode_moved es ps (good_shape_lem es ps checked) (passed_gives es ps checked) d k s false byte

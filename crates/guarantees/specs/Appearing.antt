@@ -1,7 +1,7 @@
 -- An element of each ID of a checked table can appear. Document 02, CR 5: "Someone typed 1 as an ID; the check passed
 -- and the element never appeared." Here are the bytes in which it appears, and what a fresh decoder answers to them:
 -- where they are the first of the input, and where its parents are written out before it.
-use Rattle.std.specs.Prelude.{ℕ, ◌+◌, ◌<◌, ◌≡◌, true, cond, List, [], ◌∷◌, ◌++◌, pos, length}
+use Rattle.std.specs.Prelude.{ℕ, ◌+◌, ◌<◌, ◌≡◌, true, cond, List, [], ◌∷◌, ◌++◌, pos, length, Ok}
 use Rattle.tools.specs.ElementId.{element_id_length, id_bytes}
 use Rattle.table.specs.Check.{only_ids}
 use Rattle.table.specs.Passed.{at}
@@ -63,7 +63,7 @@ calls_in_parents kind p (y ∷ parents) x = tells (Start y p) (header_length y) 
 
 -- with an element of this entry that holds nothing, a fresh decoder answers its event at the first call
 abbrev pub AppearsAlone : List ℕ → List ℕ → Entry → Type 0
-AppearsAlone es ps e = (decode es ps fresh (empty_element e.id)).answer ≡ answer.Event (empty_event e.kind e.id 0 (header_length e.id))
+AppearsAlone es ps e = (decode es ps fresh (empty_element e.id)).answer ≡ Ok (answer.Event (empty_event e.kind e.id 0 (header_length e.id)))
 
 -- with the parents that its path names before it, calls in a row tell the Start of each and then its event
 abbrev pub AppearsInParents : List ℕ → List ℕ → Entry → Type 0

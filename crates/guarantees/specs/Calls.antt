@@ -1,6 +1,6 @@
 -- Any calls on one decoder that begins fresh, with what each of them answers, by the very definitions that the
 -- contracts of the routines cite. A list of calls stands latest first.
-use Rattle.std.specs.Prelude.{ℕ, Bool, List, [], ◌∷◌}
+use Rattle.std.specs.Prelude.{ℕ, Bool, List, [], ◌∷◌, Option, Result}
 use Rattle.tools.specs.Bytes.{Octets}
 use Rattle.decoder_rules.specs.Record.{fresh}
 use Rattle.decoder_rules.specs.Numbers.{answer_refusal, search_refusal}
@@ -8,10 +8,10 @@ use Rattle.decoder_rules.specs.Moving.{decode}
 use Rattle.decoder_rules.specs.EndOfInput.{decode_eof}
 use Rattle.decoder_rules.specs.Recovery.{try_recover}
 use Rattle.decoder_rules.specs.declared.types.Answer.{Answer}
-use Rattle.decoder_rules.specs.declared.types.Optional.{Optional}
 use Rattle.decoder_rules.specs.declared.types.Search.{Search}
 use Rattle.decoder_rules.specs.declared.types.TagDecoder.{TagDecoder}
 use Rattle.decoder_rules.specs.Settings.{allowing, reading, limited_to}
+use Rattle.decoder_rules.specs.declared.types.Refusal.{Refusal}
 
 -- ---- a call, and what it answers
 
@@ -23,7 +23,7 @@ pub data Call : Type 0 where
   recovering : List ℕ → Call
   allow : Bool → Bool → Bool → Call
   strictly : Bool → Call
-  limit : Optional → Call
+  limit : Option ℕ → Call
 
 -- the bytes lent at a call
 abbrev pub lent : Call → List ℕ
@@ -36,8 +36,8 @@ lent (limit n) = []
 
 -- what a call answers, with the count of bytes taken; a setting answers nothing
 pub data Response : Type 0 where
-  answered : Answer → ℕ → Response
-  searched : Search → ℕ → Response
+  answered : Result Answer Refusal → ℕ → Response
+  searched : Result Search Refusal → ℕ → Response
   silent : Response
 
 module _ (es ps : List ℕ) where

@@ -1,6 +1,6 @@
 -- Document 02, CR 10, in demand 3: "the count equals that in the events handed out". How many children each master has
 -- had, as a caller can tell it from the calls and their answers alone. A history stands latest first.
-use Rattle.std.specs.Prelude.{ℕ, zero, suc, ◌+◌, ◌*◌, ◌≤◌, ◌≡◌, List, [], ◌∷◌, ◌++◌, map, reverse, length, get_or, drop}
+use Rattle.std.specs.Prelude.{ℕ, zero, suc, ◌+◌, ◌*◌, ◌≤◌, ◌≡◌, List, [], ◌∷◌, ◌++◌, map, reverse, length, get_or, drop, Err, Ok, Result}
 use Rattle.table.specs.Table.{Entry, table_of}
 use Rattle.spec_util.specs.declared.types.OpenTag.{OpenTag}
 use Rattle.decoder_rules.specs.Record.{opens, waits}
@@ -14,6 +14,7 @@ use Rattle.guarantees.specs.Calls.{Call, lent, Response, answered, searched, sil
 use Rattle.guarantees.specs.Settling.{seen_parents}
 use Rattle.guarantees.specs.History.{parents_left}
 use Rattle.guarantees.specs.Promises.{last_response, Answers, open_at, position_at}
+use Rattle.decoder_rules.specs.declared.types.Refusal.{Refusal}
 
 -- ---- the children so far of every master that has not had its End, the innermost first
 
@@ -30,11 +31,11 @@ counts_by_event (event.End end) l = drop 1 l
 counts_by_event (event.Data x o v) l = child_of_first l
 
 -- of the answers only an event changes them
-abbrev pub counts_by_answer : Answer → List ℕ → List ℕ
-counts_by_answer (answer.Event e) l = counts_by_event e l
-counts_by_answer (answer.NeedMore missing) l = l
-counts_by_answer answer.Finished l = l
-counts_by_answer (answer.Refused r) l = l
+abbrev pub counts_by_answer : Result Answer Refusal → List ℕ → List ℕ
+counts_by_answer (Ok (answer.Event e)) l = counts_by_event e l
+counts_by_answer (Ok (answer.NeedMore missing)) l = l
+counts_by_answer (Ok answer.Finished) l = l
+counts_by_answer (Err r) l = l
 
 -- the counts after any call
 abbrev pub counts_by : Response → List ℕ → List ℕ
@@ -71,11 +72,11 @@ back_from (event.Data x o v) earlier zero = earlier 0 + 1
 back_from (event.Data x o v) earlier (suc inner) = earlier (suc inner)
 
 -- from this answer back
-abbrev pub back_from_answer : Answer → (ℕ → ℕ) → ℕ → ℕ
-back_from_answer (answer.Event e) earlier = back_from e earlier
-back_from_answer (answer.NeedMore missing) earlier = earlier
-back_from_answer answer.Finished earlier = earlier
-back_from_answer (answer.Refused r) earlier = earlier
+abbrev pub back_from_answer : Result Answer Refusal → (ℕ → ℕ) → ℕ → ℕ
+back_from_answer (Ok (answer.Event e)) earlier = back_from e earlier
+back_from_answer (Ok (answer.NeedMore missing)) earlier = earlier
+back_from_answer (Ok answer.Finished) earlier = earlier
+back_from_answer (Err r) earlier = earlier
 
 -- from what a call told back
 abbrev pub back_from_told : Response → (ℕ → ℕ) → ℕ → ℕ
@@ -114,9 +115,9 @@ total (n ∷ l) = n + total l
 -- the counts of the table in these words
 pub record ChildCounts (es ps : List ℕ) : Type 0 where
   -- an End carries the count of the master that it names, which is the first (`end_matches`)
-  pub end_counts_lem : (cs : List Call) (c : Call) → Lent (c ∷ cs) → (end : WaitingEnd) → Answers es ps cs c (answer.Event (event.End end)) → end.count ≡ get_or (counts_at es ps cs c) 0 0
+  pub end_counts_lem : (cs : List Call) (c : Call) → Lent (c ∷ cs) → (end : WaitingEnd) → Answers es ps cs c (Ok (answer.Event (event.End end))) → end.count ≡ get_or (counts_at es ps cs c) 0 0
   -- so it carries how many Starts and Data came right inside that master since its Start, or since it was implied
-  pub since_its_start : (cs : List Call) (c : Call) → Lent (c ∷ cs) → (end : WaitingEnd) → Answers es ps cs c (answer.Event (event.End end)) → end.count ≡ children_at es ps cs c
+  pub since_its_start : (cs : List Call) (c : Call) → Lent (c ∷ cs) → (end : WaitingEnd) → Answers es ps cs c (Ok (answer.Event (event.End end))) → end.count ≡ children_at es ps cs c
   -- there is a count for each Start that is open and each implied parent that is left
   pub as_many : (cs : List Call) → Lent cs → length (child_counts ps (table_of es ps) (history es ps cs)) ≡ length (open_at es ps cs) + length (parents_left ps (table_of es ps) (history es ps cs))
   -- the record holds these counts

@@ -1,39 +1,40 @@
 -- What a caller can tell from the calls and their answers alone: the Starts that have not had their End, the implied
 -- parents that are left, and the position. Nothing here is read off the decoder's record. A history stands latest
 -- first.
-use Rattle.std.specs.Prelude.{ℕ, ◌+◌, Bool, true, false, not, ◌&&◌, List, [], ◌∷◌, ◌++◌, map, drop}
+use Rattle.std.specs.Prelude.{ℕ, ◌+◌, Bool, true, false, not, ◌&&◌, List, [], ◌∷◌, ◌++◌, map, drop, Err, None, Ok, Option, Result, Some}
 use Rattle.table.specs.Table.{Entry}
 use Rattle.tag_parse.specs.Header.{read_header}
 use Rattle.tag_parse.specs.declared.types.EBMLSize.{EBMLSize}
 use Rattle.tag_parse.specs.declared.types.EBMLSize.TheVariants.{Known, Unknown}
-use Rattle.tag_parse.specs.declared.types.ReadHeader.{ReadHeader}
-use Rattle.tag_parse.specs.declared.types.ReadHeader.TheVariants as header
 use Rattle.decoder_rules.specs.declared.types.Answer.{Answer}
 use Rattle.decoder_rules.specs.declared.types.Answer.TheVariants as answer
 use Rattle.decoder_rules.specs.declared.types.Event.{Event}
 use Rattle.decoder_rules.specs.declared.types.Event.TheVariants as event
-use Rattle.decoder_rules.specs.declared.types.Optional.{Optional}
-use Rattle.decoder_rules.specs.declared.types.Optional.TheVariants.{Nothing, Number}
 use Rattle.decoder_rules.specs.declared.types.Search.{Search}
 use Rattle.decoder_rules.specs.declared.types.Search.TheVariants as search
 use Rattle.guarantees.specs.Calls.{Call, decoding, ending, recovering, allow, strictly, limit, lent, Response, answered, searched, silent, Step}
 use Rattle.guarantees.specs.Settling.{seen_parents}
+use Rattle.tag_parse.specs.declared.types.ParseError.{ParseError}
+use Rattle.decoder_rules.specs.declared.types.Refusal.{Refusal}
+use Rattle.tools.specs.declared.status.Status.{Status}
+use Rattle.tag_parse.specs.declared.types.TagHeader.{TagHeader}
+use Rattle.tools.specs.declared.status.Status.TheVariants as status
 
 -- ---- where an element ends
 
 -- the first place past an element of this size, whose data start at p
-abbrev pub end_after : ℕ → EBMLSize → Optional
-end_after p Unknown = Nothing
-end_after p (Known n) = Number (p + n)
+abbrev pub end_after : ℕ → EBMLSize → Option ℕ
+end_after p Unknown = None
+end_after p (Known n) = Some (p + n)
 
 -- the same of what was read as a header at p: nothing, unless it is a header of known size
-abbrev pub header_end : ℕ → ReadHeader → Optional
-header_end p (header.NeedMore missing) = Nothing
-header_end p (header.Refused e) = Nothing
-header_end p (header.Header h) = end_after (p + h.len) h.size
+abbrev pub header_end : ℕ → Result (Status TagHeader) ParseError → Option ℕ
+header_end p (Ok (status.NeedMore missing)) = None
+header_end p (Err e) = None
+header_end p (Ok (status.Complete h)) = end_after (p + h.len) h.size
 
 -- where the element at offset p ends, if its size is known: as the header at the front of the bytes lent says
-unfoldable pub declared_end : List Entry → ℕ → List ℕ → Optional
+unfoldable pub declared_end : List Entry → ℕ → List ℕ → Option ℕ
 declared_end t p s = header_end p (read_header t s)
 
 -- ---- the Starts that have not had their End, the last one first
@@ -42,12 +43,12 @@ declared_end t p s = header_end p (read_header t s)
 pub record Started : Type 0 where
   pub id : ℕ
   pub offset : ℕ
-  pub end : Optional
+  pub end : Option ℕ
 
 -- the end of a master, n bytes on: "every open known size grows by the bytes passed over"
-abbrev pub later_end : ℕ → Optional → Optional
-later_end n Nothing = Nothing
-later_end n (Number e) = Number (e + n)
+abbrev pub later_end : ℕ → Option ℕ → Option ℕ
+later_end n None = None
+later_end n (Some e) = Some (e + n)
 
 -- a Start whose end is n bytes on
 unfoldable pub later : ℕ → Started → Started
@@ -61,17 +62,17 @@ module _ (t : List Entry) (s : List ℕ) where
   after_event (event.Data x o v) l = l
 
   -- of the answers only an event changes which Starts are open
-  abbrev pub after_answer : Answer → List Started → List Started
-  after_answer (answer.Event e) l = after_event e l
-  after_answer (answer.NeedMore missing) l = l
-  after_answer answer.Finished l = l
-  after_answer (answer.Refused r) l = l
+  abbrev pub after_answer : Result Answer Refusal → List Started → List Started
+  after_answer (Ok (answer.Event e)) l = after_event e l
+  after_answer (Ok (answer.NeedMore missing)) l = l
+  after_answer (Ok answer.Finished) l = l
+  after_answer (Err r) l = l
 
   -- where a recovery found a header, every end grows by the bytes that it passed over
-  abbrev pub after_search : Search → List Started → List Started
-  after_search (search.Found passed) l = map (later passed) l
-  after_search (search.NotFound passed) l = l
-  after_search (search.Refused r) l = l
+  abbrev pub after_search : Result Search Refusal → List Started → List Started
+  after_search (Ok (search.Found passed)) l = map (later passed) l
+  after_search (Ok (search.NotFound passed)) l = l
+  after_search (Err r) l = l
 
   -- the Starts that are open after any call
   abbrev pub after_response : Response → List Started → List Started
@@ -96,13 +97,13 @@ starts_declared t [] = []
 starts_declared t (s ∷ h) = after_declared t (lent s.call) s.told (starts_declared t h)
 
 -- the first of two ends that is known
-abbrev pub first_end : Optional → Optional → Optional
-first_end Nothing g = g
-first_end (Number e) g = Number e
+abbrev pub first_end : Option ℕ → Option ℕ → Option ℕ
+first_end None g = g
+first_end (Some e) g = Some e
 
 -- where the outermost Start of known size ends
-unfoldable pub outermost_end : List Started → Optional
-outermost_end [] = Nothing
+unfoldable pub outermost_end : List Started → Option ℕ
+outermost_end [] = None
 outermost_end (m ∷ l) = first_end (outermost_end l) m.end
 
 -- ---- the implied parents that have not had their End, the innermost first
@@ -119,11 +120,11 @@ left_by_event (event.End end) starts l = left_by_end starts l
 left_by_event (event.Data x o v) starts l = l
 
 -- the parents that an answer leaves
-abbrev pub left_by_answer : Answer → List Started → List ℕ → List ℕ
-left_by_answer (answer.Event e) starts l = left_by_event e starts l
-left_by_answer (answer.NeedMore missing) starts l = l
-left_by_answer answer.Finished starts l = l
-left_by_answer (answer.Refused r) starts l = l
+abbrev pub left_by_answer : Result Answer Refusal → List Started → List ℕ → List ℕ
+left_by_answer (Ok (answer.Event e)) starts l = left_by_event e starts l
+left_by_answer (Ok (answer.NeedMore missing)) starts l = l
+left_by_answer (Ok answer.Finished) starts l = l
+left_by_answer (Err r) starts l = l
 
 -- the parents that any call leaves
 abbrev pub left_by : Response → List Started → List ℕ → List ℕ

@@ -1,17 +1,14 @@
 -- The promises of demand 3 as statements over any calls on a fresh decoder: each speaks of the last of the calls,
 -- whatever the calls before it were.
-use Rattle.std.specs.Prelude.{ℕ, zero, suc, ◌+◌, ◌≤◌, ◌<◌, ◌≡◌, Bool, true, false, not, ◌&&◌, length, take, drop}
+use Rattle.std.specs.Prelude.{ℕ, zero, suc, ◌+◌, ◌≤◌, ◌<◌, ◌≡◌, Bool, true, false, not, ◌&&◌, length, take, drop, Err, None, Ok, Option, Result, Some}
 use mathlib.Core.List.{List, [], ◌∷◌, ◌++◌, Memᴰ}
 use Rattle.table.specs.Check.{check_table, only_ids}
 use Rattle.table.specs.Table.{Entry, table_of, data_type_of, path_of, is_typed}
-use Rattle.table.specs.declared.types.Checked.TheVariants.{Passed}
 use Rattle.table.specs.declared.types.TagDataType.{TagDataType}
 use Rattle.table.specs.declared.types.TagDataType.TheVariants as type
 use Rattle.tag_parse.specs.Header.{read_header}
 use Rattle.tag_parse.specs.Payload.{value_of}
 use Rattle.tag_parse.specs.declared.types.EBMLSize.TheVariants.{Known}
-use Rattle.tag_parse.specs.declared.types.ReadValue.TheVariants.{Value}
-use Rattle.tag_parse.specs.declared.types.ReadHeader.TheVariants.{Header}
 use Rattle.tag_parse.specs.declared.types.TagHeader.{TagHeader}
 use Rattle.tag_parse.specs.declared.types.TagValue.{TagValue}
 use Rattle.tag_parse.specs.declared.types.TagValue.TheVariants as value
@@ -21,12 +18,12 @@ use Rattle.decoder_rules.specs.declared.types.Answer.{Answer}
 use Rattle.decoder_rules.specs.declared.types.Answer.TheVariants as answer
 use Rattle.decoder_rules.specs.declared.types.Event.{Event}
 use Rattle.decoder_rules.specs.declared.types.Event.TheVariants as event
-use Rattle.decoder_rules.specs.declared.types.Optional.{Optional}
-use Rattle.decoder_rules.specs.declared.types.Optional.TheVariants.{Nothing, Number}
 use Rattle.decoder_rules.specs.declared.types.WaitingEnd.{WaitingEnd}
 use Rattle.guarantees.specs.Calls.{lent, Call, ending, Response, answered, searched, silent, Step, response_to, record_after, history, Lent}
 use Rattle.guarantees.specs.Settling.{seen_parents}
 use Rattle.guarantees.specs.History.{Started, starts_open, parents_left, position}
+use Rattle.decoder_rules.specs.declared.types.Refusal.{Refusal}
+use Rattle.tools.specs.declared.status.Status.TheVariants as status
 
 -- ---- what stands in an answer
 
@@ -52,17 +49,17 @@ event_id (event.End end) = end.id
 event_id (event.Data x o v) = x
 
 -- the offset of an element, a Start or a Data; an End is none
-abbrev pub element_offset : Event → Optional
-element_offset (event.Start x o) = Number o
-element_offset (event.End end) = Nothing
-element_offset (event.Data x o v) = Number o
+abbrev pub element_offset : Event → Option ℕ
+element_offset (event.Start x o) = Some o
+element_offset (event.End end) = None
+element_offset (event.Data x o v) = Some o
 
 -- ---- the table and the calls that the promises speak of
 
 -- these calls are such as the promises speak of
 pub record Runs (es ps : List ℕ) (cs : List Call) : Type 0 where
   -- the table is one that the table check passes
-  pub checked : check_table es ps ≡ Passed
+  pub checked : check_table es ps ≡ Ok tt
   -- what is lent are octets
   pub octets : Lent cs
 
@@ -71,7 +68,7 @@ abbrev pub last_response : List ℕ → List ℕ → List Call → Call → Resp
 last_response es ps cs c = response_to es ps (record_after es ps cs) c
 
 -- the call c answers a: it is decode or the end of input, and takes some count of bytes
-abbrev pub Answers : List ℕ → List ℕ → List Call → Call → Answer → Type 0
+abbrev pub Answers : List ℕ → List ℕ → List Call → Call → Result Answer Refusal → Type 0
 Answers es ps cs c a = (n : ℕ) × (last_response es ps cs c ≡ answered a n)
 
 -- the Starts that are open after these calls
@@ -91,14 +88,14 @@ position_at es ps cs = position (history es ps cs)
 -- the header at the front of the bytes s is that of the event e: it reads as e's ID, of e's kind
 pub record HeaderOf (t : List Entry) (s : List ℕ) (e : Event) : Type 0 where
   pub its : TagHeader
-  pub read : read_header t s ≡ Header its
+  pub read : read_header t s ≡ Ok (status.Complete its)
   pub same_id : its.id ≡ event_id e
   pub same_kind : its.kind ≡ event_kind e
 
 -- n bytes are the header at the front of the bytes s, and no more than that
 pub record HeaderAlone (t : List Entry) (s : List ℕ) (n : ℕ) : Type 0 where
   pub its : TagHeader
-  pub read : read_header t s ≡ Header its
+  pub read : read_header t s ≡ Ok (status.Complete its)
   pub no_more : n ≡ its.len
 
 -- n bytes at the front of s are one whole element at offset o: a header of known size and as much payload as it says,
@@ -106,12 +103,12 @@ pub record HeaderAlone (t : List Entry) (s : List ℕ) (n : ℕ) : Type 0 where
 -- text before its first zero byte
 pub record WholeData (strict : Bool) (t : List Entry) (s : List ℕ) (o n : ℕ) (v : TagValue) : Type 0 where
   pub its : TagHeader
-  pub read : read_header t s ≡ Header its
+  pub read : read_header t s ≡ Ok (status.Complete its)
   pub size : ℕ
   pub known : its.size ≡ Known size
   pub count : n ≡ its.len + size
   pub within : n ≤ length s
-  pub value : value_of strict its.kind (take size (drop its.len s)) (record { begin = o + its.len; end = o + n }) ≡ Value v
+  pub value : value_of strict its.kind (take size (drop its.len s)) (record { begin = o + its.len; end = o + n }) ≡ Ok v
 
 -- an event that settles nothing: a Data whose ID has no type, or a Global in its path
 abbrev pub is_loose : List Entry → Event → Bool
@@ -121,10 +118,10 @@ is_loose t (event.Data x o v) = not (is_typed (data_type_of t x) && only_ids (pa
 
 -- the same of any answer: it is no other event
 abbrev pub answers_loose : List Entry → Response → Bool
-answers_loose t (answered (answer.Event e) n) = is_loose t e
-answers_loose t (answered (answer.NeedMore missing) n) = true
-answers_loose t (answered answer.Finished n) = true
-answers_loose t (answered (answer.Refused r) n) = true
+answers_loose t (answered (Ok (answer.Event e)) n) = is_loose t e
+answers_loose t (answered (Ok (answer.NeedMore missing)) n) = true
+answers_loose t (answered (Ok answer.Finished) n) = true
+answers_loose t (answered (Err r) n) = true
 answers_loose t (searched a n) = true
 answers_loose t silent = true
 
@@ -146,7 +143,7 @@ EndMatches (m ∷ starts) left end = (end.id ≡ m.id) × (end.offset ≡ m.offs
 
 -- an element that ends at e ends inside every master of known size of these
 abbrev pub EndsInside : ℕ → List Started → Type 0
-EndsInside e starts = (m : Started) → Memᴰ m starts → (f : ℕ) → m.end ≡ Number f → e ≤ f
+EndsInside e starts = (m : Started) → Memᴰ m starts → (f : ℕ) → m.end ≡ Some f → e ≤ f
 
 -- ---- cut records
 
@@ -155,17 +152,17 @@ pub record NotFull (starts : List Started) (p : ℕ) : Type 0 where
   pub master : Started
   pub still_open : Memᴰ master starts
   pub end : ℕ
-  pub known : master.end ≡ Number end
+  pub known : master.end ≡ Some end
   pub beyond : p < end
 
 -- an End, or refusal 23
-abbrev pub EndOr23 : Answer → Type 0
-EndOr23 (answer.Event (event.Start x o)) = ⊥
-EndOr23 (answer.Event (event.End end)) = Unit {0}
-EndOr23 (answer.Event (event.Data x o v)) = ⊥
-EndOr23 (answer.NeedMore missing) = ⊥
-EndOr23 answer.Finished = ⊥
-EndOr23 (answer.Refused r) = error_number r.error ≡ 23
+abbrev pub EndOr23 : Result Answer Refusal → Type 0
+EndOr23 (Ok (answer.Event (event.Start x o))) = ⊥
+EndOr23 (Ok (answer.Event (event.End end))) = Unit {0}
+EndOr23 (Ok (answer.Event (event.Data x o v))) = ⊥
+EndOr23 (Ok (answer.NeedMore missing)) = ⊥
+EndOr23 (Ok answer.Finished) = ⊥
+EndOr23 (Err r) = error_number r.error ≡ 23
 
 -- the end of input called n times more, with no byte
 unfoldable pub ending_again : ℕ → List Call → List Call
@@ -173,5 +170,5 @@ ending_again zero cs = cs
 ending_again (suc n) cs = ending [] ∷ ending_again n cs
 
 -- what the end of input with no byte answers after these calls
-abbrev pub at_the_end : List ℕ → List ℕ → List Call → Answer
+abbrev pub at_the_end : List ℕ → List ℕ → List Call → Result Answer Refusal
 at_the_end es ps cs = (decode_eof es ps (record_after es ps cs) []).answer

@@ -1,7 +1,7 @@
 -- A run of results: calls one after the other, each on the record that the one before it left, with what each returned.
 -- Which results a routine may return is its contract alone: by value, `Post`, the contract as the checker reads it; with
 -- the record lent, the contract's own words, `ReturnsAndLeaves`.
-use Rattle.std.specs.Prelude.{ℕ, ◌≡◌, Bool, List, [], ◌∷◌}
+use Rattle.std.specs.Prelude.{ℕ, ◌≡◌, Bool, List, [], ◌∷◌, Option}
 use borrow.Fn.Kinds.{Dens, ended_of}
 use contract.Lifetimes.{Lfts}
 use denote.Triple.Clauses.{AtExit}
@@ -10,7 +10,6 @@ use Rattle.decoder_rules.specs.EndOfInput.{decode_eof}
 use Rattle.decoder_rules.specs.Recovery.{try_recover}
 use Rattle.decoder_rules.specs.Settings.{allowing, reading, limited_to}
 use Rattle.decoder_rules.specs.declared.types.Decoded.{Decoded}
-use Rattle.decoder_rules.specs.declared.types.Optional.{Optional}
 use Rattle.decoder_rules.specs.declared.types.Recovered.{Recovered}
 use Rattle.decoder_rules.specs.declared.types.TagDecoder.{TagDecoder}
 use Rattle.tag_decoder.proofs.calls.decode.Kinds as decode-kinds
@@ -97,7 +96,7 @@ pub record StrictReturns (d : TagDecoder) (b : Bool) (e : TagDecoder) : Type 1 w
   pub ensured : strict-contract.Post lifetimes arguments e exit
 
 -- `settings::set_max_allowable_tag_size` may
-pub record MaxReturns (d : TagDecoder) (n : Optional) (e : TagDecoder) : Type 1 where
+pub record MaxReturns (d : TagDecoder) (n : Option ℕ) (e : TagDecoder) : Type 1 where
   pub lifetimes : Lfts 0
   pub arguments : Dens lifetimes max-kinds.ps
   pub exit : AtExit (ended_of 0 max-kinds.ps max-kinds.r) lifetimes
@@ -111,7 +110,7 @@ pub data ByValue (es ps : List ℕ) (d : TagDecoder) : Call → Response → Tag
   recovered : (s : List ℕ) (r : Recovered) → RecoverReturns es ps d s r → ByValue es ps d (recovering s) (searched r.answer r.taken) r.state
   allowed : (ids hierarchy oversized : Bool) (e : TagDecoder) → AllowReturns d ids hierarchy oversized e → ByValue es ps d (allow ids hierarchy oversized) silent e
   made_strict : (b : Bool) (e : TagDecoder) → StrictReturns d b e → ByValue es ps d (strictly b) silent e
-  limited : (n : Optional) (e : TagDecoder) → MaxReturns d n e → ByValue es ps d (limit n) silent e
+  limited : (n : Option ℕ) (e : TagDecoder) → MaxReturns d n e → ByValue es ps d (limit n) silent e
 
 -- ---- with the record lent: d before the call, e as the call leaves it
 
@@ -137,7 +136,7 @@ abbrev pub StrictLeaves : TagDecoder → Bool → TagDecoder → Type 0
 StrictLeaves d b e = e ≡ reading d b
 
 -- `settings::set_max_allowable_tag_size` may
-abbrev pub MaxLeaves : TagDecoder → Optional → TagDecoder → Type 0
+abbrev pub MaxLeaves : TagDecoder → Option ℕ → TagDecoder → Type 0
 MaxLeaves d n e = e ≡ limited_to d n
 
 -- what the routines of tag_decoder_lent may return and leave of each call
@@ -147,4 +146,4 @@ pub data ByReference (es ps : List ℕ) (d : TagDecoder) : Call → Response →
   lent_recovered : (s : List ℕ) (r : RecoveryReply) (e : TagDecoder) → RecoverLeaves es ps d s r e → ByReference es ps d (recovering s) (searched r.answer r.taken) e
   lent_allowed : (ids hierarchy oversized : Bool) (e : TagDecoder) → AllowLeaves d ids hierarchy oversized e → ByReference es ps d (allow ids hierarchy oversized) silent e
   lent_made_strict : (b : Bool) (e : TagDecoder) → StrictLeaves d b e → ByReference es ps d (strictly b) silent e
-  lent_limited : (n : Optional) (e : TagDecoder) → MaxLeaves d n e → ByReference es ps d (limit n) silent e
+  lent_limited : (n : Option ℕ) (e : TagDecoder) → MaxLeaves d n e → ByReference es ps d (limit n) silent e

@@ -1,17 +1,17 @@
 -- The implied parents as a caller can tell them, from the bytes lent and the answers alone. Document 01, step 7: "if
 -- not yet settled and a typed ID's path is all IDs (or empty), the stack becomes those IDs".
-use Rattle.std.specs.Prelude.{ℕ, suc, Bool, false, cond, ◌||◌, List, [], ◌∷◌, map, reverse, eqb}
+use Rattle.std.specs.Prelude.{ℕ, suc, Bool, false, cond, ◌||◌, List, [], ◌∷◌, map, reverse, eqb, Err, None, Ok, Option, Result, Some}
 use Rattle.table.specs.Table.{Entry, parts_of, parts_in}
 use Rattle.spec_util.specs.declared.types.OpenTag.{OpenTag}
 use Rattle.decoder_rules.specs.Numbers.{answer_refusal}
 use Rattle.decoder_rules.specs.Record.{implied}
 use Rattle.decoder_rules.specs.OneCall.{is_settle}
 use Rattle.decoder_rules.specs.FirstPlace.{settle_at, settle_before}
-use Rattle.decoder_rules.specs.declared.types.Note.{Note}
-use Rattle.decoder_rules.specs.declared.types.Note.TheVariants.{NoNote, Settle}
 use Rattle.decoder_rules.specs.declared.types.Search.{Search}
 use Rattle.decoder_rules.specs.declared.types.Search.TheVariants as search
 use Rattle.guarantees.specs.Calls.{Call, decoding, ending, recovering, allow, strictly, limit, lent, Response, answered, searched, silent, Step}
+use Rattle.table.specs.declared.types.Path.{Path}
+use Rattle.decoder_rules.specs.declared.types.Refusal.{Refusal}
 
 -- ---- the mode
 
@@ -32,25 +32,25 @@ is_strict_after (s ∷ h) = mode_after s.call (is_strict_after h)
 -- ---- the implied parents
 
 -- the parents that a note implies: of a settling note the IDs of its path, the innermost first
-unfoldable pub implied_by : List ℕ → Note → List ℕ
-implied_by ps NoNote = []
-implied_by ps (Settle path) = map (λ (m : OpenTag). m.id) (reverse (map implied (parts_in (parts_of ps) path)))
+unfoldable pub implied_by : List ℕ → Option Path → List ℕ
+implied_by ps None = []
+implied_by ps (Some path) = map (λ (m : OpenTag). m.id) (reverse (map implied (parts_in (parts_of ps) path)))
 
 -- the refusal of this number comes before a byte is read: 12 and 13 do
 abbrev pub comes_unread : ℕ → Bool
 comes_unread n = eqb n 12 || eqb n 13
 
 -- the note of a recovery: where it passed over n bytes, it read a header at n + 1 places
-abbrev pub search_note : Bool → List Entry → List ℕ → Search → Note
-search_note strict t s (search.Found passed) = settle_before strict t (suc passed) s
-search_note strict t s (search.NotFound passed) = settle_before strict t (suc passed) s
-search_note strict t s (search.Refused r) = NoNote
+abbrev pub search_note : Bool → List Entry → List ℕ → Result Search Refusal → Option Path
+search_note strict t s (Ok (search.Found passed)) = settle_before strict t (suc passed) s
+search_note strict t s (Ok (search.NotFound passed)) = settle_before strict t (suc passed) s
+search_note strict t s (Err r) = None
 
 -- what a call on the bytes s that told this settled, strictly or as ported, where nothing had settled
-abbrev pub seen_note : Bool → List Entry → List ℕ → Response → Note
-seen_note strict t s (answered a n) = cond (comes_unread (answer_refusal a)) NoNote (settle_at strict t s)
+abbrev pub seen_note : Bool → List Entry → List ℕ → Response → Option Path
+seen_note strict t s (answered a n) = cond (comes_unread (answer_refusal a)) None (settle_at strict t s)
 seen_note strict t s (searched a n) = search_note strict t s a
-seen_note strict t s silent = NoNote
+seen_note strict t s silent = None
 
 -- some call settled
 unfoldable pub has_settled : List Entry → List Step → Bool

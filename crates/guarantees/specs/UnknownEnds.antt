@@ -2,21 +2,20 @@
 -- master only where section 6.2 of the standard lets it end". That section is of masters of unknown size; its cases are
 -- those of `EndsBy62`. A call that closes masters answers the first of their Ends, and the others wait for the next
 -- calls: so an End is spoken of by the call at which its master closed.
-use Rattle.std.specs.Prelude.{ℕ, ◌≤◌, ◌≡◌, true, length}
+use Rattle.std.specs.Prelude.{ℕ, ◌≤◌, ◌≡◌, true, length, None, Ok, Some}
 use mathlib.Core.List.{List, [], ◌∷◌, ◌++◌, map, Memᴰ}
 use Rattle.table.specs.Table.{table_of}
 use Rattle.spec_util.specs.Rfc8794.{EndsUnknownSize}
 use Rattle.tag_parse.specs.Header.{read_header}
-use Rattle.tag_parse.specs.declared.types.ReadHeader.TheVariants.{Header}
 use Rattle.tag_parse.specs.declared.types.TagHeader.{TagHeader}
 use Rattle.decoder_rules.specs.declared.types.Answer.TheVariants.{Event}
 use Rattle.decoder_rules.specs.declared.types.Event.TheVariants.{End}
-use Rattle.decoder_rules.specs.declared.types.Optional.TheVariants.{Nothing, Number}
 use Rattle.decoder_rules.specs.declared.types.WaitingEnd.{WaitingEnd}
 use Rattle.guarantees.specs.Calls.{Call, ending, lent, record_after, history, Lent}
 use Rattle.guarantees.specs.Settling.{is_strict_after}
 use Rattle.guarantees.specs.History.{Started}
 use Rattle.guarantees.specs.Promises.{Answers, open_at, left_at, position_at}
+use Rattle.tools.specs.declared.status.Status.TheVariants as status
 
 -- ---- a call c after the calls cs
 
@@ -24,7 +23,7 @@ module _ (es ps : List ℕ) (cs : List Call) (c : Call) where
   -- the masters that have not had their End where the call comes, the innermost first: the Starts that are open and then
   -- the implied parents that are left, each at 0 and of unknown size
   abbrev pub standing_at : List Started
-  standing_at = open_at es ps cs ++ map (λ x. record { id = x; offset = 0; end = Nothing }) (left_at es ps cs c)
+  standing_at = open_at es ps cs ++ map (λ x. record { id = x; offset = 0; end = None }) (left_at es ps cs c)
 
   -- the call closes the master m, which stands inside these others: no End waits before it, and after it the record has
   -- no more open masters than stand around m
@@ -37,9 +36,9 @@ module _ (es ps : List ℕ) (cs : List Call) (c : Call) where
   -- section 6.2 lets the master m, which stands inside these others, end at this call
   pub data EndsBy62 (m : Started) (around : List Started) : Type 0 where
     -- at an element that ends it, a parent, a sibling or a root: its header stands at the front of the bytes lent
-    by_element : (h : TagHeader) → read_header (table_of es ps) (lent c) ≡ Header h → EndsUnknownSize (table_of es ps) m.id h.id → EndsBy62 m around
+    by_element : (h : TagHeader) → read_header (table_of es ps) (lent c) ≡ Ok (status.Complete h) → EndsUnknownSize (table_of es ps) m.id h.id → EndsBy62 m around
     -- at the end of a parent of known size: one of those around it ends at the position, or before
-    by_known_end : (parent : Started) (end : ℕ) → Memᴰ parent around → parent.end ≡ Number end → end ≤ position_at es ps cs → EndsBy62 m around
+    by_known_end : (parent : Started) (end : ℕ) → Memᴰ parent around → parent.end ≡ Some end → end ≤ position_at es ps cs → EndsBy62 m around
     -- at the end of the document: the input has ended, and no byte is left
     by_end_of_input : c ≡ ending [] → EndsBy62 m around
 
@@ -58,9 +57,9 @@ pub record ClosedIn (es ps : List ℕ) (run : List Call) (m : Started) : Type 0 
 -- where masters of unknown size end, of the table in these words
 pub record UnknownEnds (es ps : List ℕ) : Type 0 where
   -- strictly, a call closes such a master only where section 6.2 lets it end
-  pub closes_by_62 : (cs : List Call) (c : Call) → Lent (c ∷ cs) → is_strict_after (history es ps cs) ≡ true → (m : Started) (around : List Started) → m.end ≡ Nothing
+  pub closes_by_62 : (cs : List Call) (c : Call) → Lent (c ∷ cs) → is_strict_after (history es ps cs) ≡ true → (m : Started) (around : List Started) → m.end ≡ None
       → Closes es ps cs c m around → EndsBy62 es ps cs c m around
   -- and each End of such a master, which is the first of those that stand (`end_matches`), is of one that closed so: at
   -- the call that answers it, or at an earlier one
-  pub end_by_62 : (cs : List Call) (c : Call) → Lent (c ∷ cs) → (end : WaitingEnd) → Answers es ps cs c (Event (End end)) → (m : Started) (around : List Started)
-      → standing_at es ps cs c ≡ m ∷ around → m.end ≡ Nothing → ClosedIn es ps (c ∷ cs) m
+  pub end_by_62 : (cs : List Call) (c : Call) → Lent (c ∷ cs) → (end : WaitingEnd) → Answers es ps cs c (Ok (Event (End end))) → (m : Started) (around : List Started)
+      → standing_at es ps cs c ≡ m ∷ around → m.end ≡ None → ClosedIn es ps (c ∷ cs) m

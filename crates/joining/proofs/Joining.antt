@@ -26,6 +26,7 @@ use Rattle.tag_decoder_laws.proofs.AppendedBytes.{decode_local, octets_front, ag
 use Rattle.tag_decoder_laws.proofs.Finishing.{never_finished}
 use Rattle.joining.specs.Joining.{Outcome, ended_by, after, with, run, onward, unread_behind, joined, in_pieces, MoreOrRefused, Joins}
 use Rattle.joining.proofs.Runs.{of_any_run, state_after, rest_after, run_stops, run_event, run_same}
+use Rattle.std.specs.Prelude.{Err, Ok, Result}
 
 -- ---- one call on a, and on both
 
@@ -38,7 +39,7 @@ record Lends (d : TagDecoder) (a b : List ℕ) : Type 0 where
 -- what is said of them, but for how the run on a ends
 record Joined (es ps b : List ℕ) (d : TagDecoder) (a : List ℕ) : Type 0 where
   composed : run es ps d (a ++ b) ≡ onward es ps (run es ps d a) b
-  same_refusal : (x : Refusal) → (run es ps d a).last ≡ answer.Refused x → run es ps d (a ++ b) ≡ unread_behind (run es ps d a) b
+  same_refusal : (x : Refusal) → (run es ps d a).last ≡ Err x → run es ps d (a ++ b) ≡ unread_behind (run es ps d a) b
 
 module _ (es ps b : List ℕ) (d : TagDecoder) (a : List ℕ) (l : Lends d a b) where
   front : Octets a
@@ -72,18 +73,18 @@ module _ (es ps b : List ℕ) (d : TagDecoder) (a : List ℕ) (l : Lends d a b) 
       ∙ ap (λ (e : TagDecoder). run es ps e (a ++ b)) stays.same
       ∙ run_same es ps (with_note es ps d a) d (a ++ b) (again es ps d a b l.byte l.open_still l.near (decide es ps d a).note refl))
 
-  last_refused : is_no_event (decode es ps d a).answer ≡ true → (x : Refusal) → (run es ps d a).last ≡ answer.Refused x → run es ps d (a ++ b) ≡ unread_behind (run es ps d a) b
+  last_refused : is_no_event (decode es ps d a).answer ≡ true → (x : Refusal) → (run es ps d a).last ≡ Err x → run es ps d (a ++ b) ≡ unread_behind (run es ps d a) b
   last_refused q x f =
       let r = decode es ps d a in
       let ended = run_stops es ps d a q in
-      let refused : r.answer ≡ answer.Refused x = ap (λ (o : Outcome). o.last) (sym ended) ∙ f in
+      let refused : r.answer ≡ Err x = ap (λ (o : Outcome). o.last) (sym ended) ∙ f in
       let same = same_call (ap needs_more refused) in
       run_stops es ps d (a ++ b) (ap (λ (y : Decoded). is_no_event y.answer) same ∙ q)
       ∙ ap (λ (y : Decoded). ended_by y (a ++ b)) same
       ∙ ap (λ (rest : List ℕ). record { handed = []; last = r.answer; state = r.state; rest = rest }) left_of_both
       ∙ sym (ap (λ (o : Outcome). unread_behind o b) ended)
 
-  event_joined : (e : Event) → (decode es ps d a).answer ≡ answer.Event e → Joined es ps b (state_after es ps d a) (rest_after es ps d a) → Joined es ps b d a
+  event_joined : (e : Event) → (decode es ps d a).answer ≡ Ok (answer.Event e) → Joined es ps b (state_after es ps d a) (rest_after es ps d a) → Joined es ps b d a
   event_joined e q on =
       let r = decode es ps d a in
       let first = run_event es ps d a front q in
@@ -108,11 +109,11 @@ module _ (es ps : List ℕ) where
       (λ d a e byte q on l. event_joined es ps b d a l e q (on (lends_left es ps b d a l)))
       d a (octets_front a b l.byte) l
 
-  last_ends : (a : Answer) → is_no_event a ≡ true → (a ≡ answer.Finished → ⊥) → MoreOrRefused a
-  last_ends (answer.Event e) q none = let z : ◌≡◌ {A = ℕ} 0 1 = cc in absurd_eq z
-  last_ends (answer.NeedMore missing) q none = tt
-  last_ends answer.Finished q none = absurd (none refl)
-  last_ends (answer.Refused x) q none = tt
+  last_ends : (a : Result Answer Refusal) → is_no_event a ≡ true → (a ≡ Ok answer.Finished → ⊥) → MoreOrRefused a
+  last_ends (Ok (answer.Event e)) q none = let z : ◌≡◌ {A = ℕ} 0 1 = cc in absurd_eq z
+  last_ends (Ok (answer.NeedMore missing)) q none = tt
+  last_ends (Ok answer.Finished) q none = absurd (none refl)
+  last_ends (Err x) q none = tt
 
   -- a run of a decoder that is not finished ends where it needs more, or with a refusal
   pub run_asks : (d : TagDecoder) (s : List ℕ) → Octets s → d.finished ≡ false → MoreOrRefused (run es ps d s).last

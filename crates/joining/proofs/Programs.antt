@@ -35,6 +35,8 @@ use Rattle.joining.specs.Joining.{Outcome, after, with, run, in_pieces}
 use Rattle.joining.specs.Programs.{as_answer, OfRun, to_its_end, too_large, ProgramsSame}
 use Rattle.joining.proofs.Joining.{any_pieces}
 use Rattle.joining.proofs.Runs.{of_any_run, run_stops, run_event}
+use Rattle.std.specs.Prelude.{Err, Ok, Result}
+use Rattle.decoder_rules.specs.declared.types.Refusal.{Refusal}
 
 -- with the bench table
 abbrev bench_decode : TagDecoder → List ℕ → Decoded
@@ -46,14 +48,14 @@ bench_run = run bench_entries bench_parts
 -- ---- an answer
 
 -- an event first, and then the answers of a run
-event_first : (size : ℕ) (e : Event) (r : Decoded) (o : Outcome) (answers : List Answered) → r.answer ≡ answer.Event e → OfRun size o answers → OfRun size (after (with e r ∷ []) o) (answered_by r ∷ answers)
+event_first : (size : ℕ) (e : Event) (r : Decoded) (o : Outcome) (answers : List Answered) → r.answer ≡ Ok (answer.Event e) → OfRun size o answers → OfRun size (after (with e r ∷ []) o) (answered_by r ∷ answers)
 event_first size e r o answers q (to_its_end last to is) =
-    to_its_end last to (ap (λ (l : List Answered). answered_by r ∷ l) is ∙ ap (λ (a : Answer). record { answer = a; after = r.state } ∷ (map as_answer o.handed ++ last)) q)
+    to_its_end last to (ap (λ (l : List Answered). answered_by r ∷ l) is ∙ ap (λ (a : Result Answer Refusal). record { answer = a; after = r.state } ∷ (map as_answer o.handed ++ last)) q)
 event_first size e r o answers q (too_large first others missing d handed is) =
     too_large (with e r ∷ first) others missing d (ap (λ l. with e r ∷ l) handed)
-    (ap (λ (l : List Answered). answered_by r ∷ l) is ∙ ap (λ (a : Answer). record { answer = a; after = r.state } ∷ (map as_answer first ++ (record { answer = answer.NeedMore missing; after = d } ∷ []))) q)
+    (ap (λ (l : List Answered). answered_by r ∷ l) is ∙ ap (λ (a : Result Answer Refusal). record { answer = a; after = r.state } ∷ (map as_answer first ++ (record { answer = Ok (answer.NeedMore missing); after = d } ∷ []))) q)
 
-event_then : (size : ℕ) (e : Event) (o : Outcome) {r : Decoded} {s : List ℕ} {answers : List Answered} → r.answer ≡ answer.Event e
+event_then : (size : ℕ) (e : Event) (o : Outcome) {r : Decoded} {s : List ℕ} {answers : List Answered} → r.answer ≡ Ok (answer.Event e)
     → ((others : List Answered) → Answers size (next_answer size r.state (drop r.taken s)) (drop r.taken s) others → OfRun size o others)
     → Answers size r s answers → OfRun size (after (with e r ∷ []) o) answers
 event_then size e o q on (goes_on r s {rs} f later) = event_first size e r o rs q (on rs later)
@@ -64,11 +66,11 @@ asks_at_once : (size : ℕ) (o : Outcome) {r : Decoded} {s : List ℕ} {answers 
 asks_at_once size o asks (goes_on r s q later) = absurd (false≢true (ap needs_more (sym q) ∙ asks))
 asks_at_once size o asks (ends r s none) = go r.answer refl asks
   where
-    go : (a : Answer) → r.answer ≡ a → needs_more a ≡ true → OfRun size o (answered_by r ∷ [])
-    go (answer.Event e) q f = absurd (false≢true f)
-    go (answer.NeedMore missing) q f = too_large [] o.handed missing r.state refl (ap (λ (a : Answer). record { answer = a; after = r.state } ∷ []) q)
-    go answer.Finished q f = absurd (false≢true f)
-    go (answer.Refused x) q f = absurd (false≢true f)
+    go : (a : Result Answer Refusal) → r.answer ≡ a → needs_more a ≡ true → OfRun size o (answered_by r ∷ [])
+    go (Ok (answer.Event e)) q f = absurd (false≢true f)
+    go (Ok (answer.NeedMore missing)) q f = too_large [] o.handed missing r.state refl (ap (λ (a : Result Answer Refusal). record { answer = a; after = r.state } ∷ []) q)
+    go (Ok answer.Finished) q f = absurd (false≢true f)
+    go (Err x) q f = absurd (false≢true f)
 
 -- ---- a run
 
@@ -122,7 +124,7 @@ module _ (size : ℕ) (some : 0 < size) where
             rw (run_stops bench_entries bench_parts d s q) (to_its_end answers (rw unread left) refl)
 
     -- a call with an event
-    event_alike : (e : Event) → (bench_decode d s).answer ≡ answer.Event e → Alike (bench_decode d s).state (drop (bench_decode d s).taken s)
+    event_alike : (e : Event) → (bench_decode d s).answer ≡ Ok (answer.Event e) → Alike (bench_decode d s).state (drop (bench_decode d s).taken s)
         → (answers : List Answered) → Answers size (next_answer size d s) s answers → OfRun size (bench_run d s) answers
     event_alike e q on answers to = go (needs_more (next_answer size d s).answer) refl
       where

@@ -22,6 +22,8 @@ use Rattle.joining.specs.Joining.{Outcome, ended_by, after, with, run, unread_be
 use Rattle.joining.specs.Results.{ReturnsByValue, ReturnsByReference, RunOf, stops, goes_on, PiecesOf, none_left, next_piece, Transfer, SameHoweverCut}
 use Rattle.joining.proofs.Joining.{joins, any_pieces}
 use Rattle.joining.proofs.Runs.{octets_back, rest_octets, runs}
+use Rattle.std.specs.Prelude.{Err, Result}
+use Rattle.decoder_rules.specs.declared.types.Refusal.{Refusal}
 
 -- ---- results that are the definition's
 
@@ -68,7 +70,7 @@ module _ (es ps : List ℕ) (Returns : TagDecoder → List ℕ → Decoded → T
       same_refusal = λ a b is o p x r q whole.
           let all : Octets (a ++ b) = subst Octets (sym is) byte in
           let first : o ≡ run es ps d a = run_is d a o (octets_front a b all) r in
-          let refused : (run es ps d a).last ≡ answer.Refused x = ap (λ (y : Outcome). y.last) (sym first) ∙ q in
+          let refused : (run es ps d a).last ≡ Err x = ap (λ (y : Outcome). y.last) (sym first) ∙ q in
           run_is d s p byte whole
           ∙ ap (run es ps d) (sym is)
           ∙ (joins es ps d a b all open_still (rw is near)).same_refusal x refused
@@ -79,10 +81,10 @@ module _ (es ps : List ℕ) (Returns : TagDecoder → List ℕ → Decoded → T
 
 module _ (es ps : List ℕ) (d : TagDecoder) (s : List ℕ) where
   -- answer, bytes taken and record of a result are those of the definition
-  value_is : (a : Answer) (n : ℕ) (e : TagDecoder) → ByValue es ps d (decoding s) (answered a n) e → record { answer = a; taken = n; state = e } ≡ decode es ps d s
+  value_is : (a : Result Answer Refusal) (n : ℕ) (e : TagDecoder) → ByValue es ps d (decoding s) (answered a n) e → record { answer = a; taken = n; state = e } ≡ decode es ps d s
   value_is _ _ _ (decoded _ r k) = rw (k.holds.0, k.holds.1, k.holds.2, k.holds.3) at k.ensured
 
-  lent_is : (a : Answer) (n : ℕ) (e : TagDecoder) → ByReference es ps d (decoding s) (answered a n) e → record { answer = a; taken = n; state = e } ≡ decode es ps d s
+  lent_is : (a : Result Answer Refusal) (n : ℕ) (e : TagDecoder) → ByReference es ps d (decoding s) (answered a n) e → record { answer = a; taken = n; state = e } ≡ decode es ps d s
   lent_is _ _ _ (lent_decoded _ r e k) = ap₂ (λ (y : Reply) (z : TagDecoder). record { answer = y.answer; taken = y.taken; state = z }) k.answer k.left
 
 module _ (es ps : List ℕ) (d : TagDecoder) (s : List ℕ) (byte : Octets s) (open_still : d.finished ≡ false) (near : d.position + length s ≤ farthest) where

@@ -19,38 +19,40 @@ use Rattle.decoder_rules.specs.declared.types.TagDecoder.{TagDecoder}
 use Rattle.decoder_rules.proofs.MoveLaws.{is_no_event}
 use Rattle.tag_decoder_laws.proofs.Nearer.{weight, event_nearer, event_light}
 use Rattle.joining.specs.Joining.{Outcome, ended_by, after, with, goes_on_with, run_for, most_events, run, NoEvent, Runs}
+use Rattle.std.specs.Prelude.{Err, Ok, Result}
+use Rattle.decoder_rules.specs.declared.types.Refusal.{Refusal}
 
 -- ---- an answer
 
 -- an answer is an event or ends the run
-pub data Kind (a : Answer) : Type 0 where
-  is_event_lem : (e : Event) → a ≡ answer.Event e → Kind a
+pub data Kind (a : Result Answer Refusal) : Type 0 where
+  is_event_lem : (e : Event) → a ≡ Ok (answer.Event e) → Kind a
   is_last : is_no_event a ≡ true → Kind a
 
 -- which of the two
-pub kind : (a : Answer) → Kind a
-kind (answer.Event e) = is_event_lem e refl
-kind (answer.NeedMore missing) = is_last refl
-kind answer.Finished = is_last refl
-kind (answer.Refused x) = is_last refl
+pub kind : (a : Result Answer Refusal) → Kind a
+kind (Ok (answer.Event e)) = is_event_lem e refl
+kind (Ok (answer.NeedMore missing)) = is_last refl
+kind (Ok answer.Finished) = is_last refl
+kind (Err x) = is_last refl
 
 -- what the test of an answer says
-pub no_event : (a : Answer) → is_no_event a ≡ true → NoEvent a
+pub no_event : (a : Result Answer Refusal) → is_no_event a ≡ true → NoEvent a
 no_event a q e f = true≢false (sym q ∙ ap is_no_event f)
 
 -- and what makes it say so
-pub ends_run : (a : Answer) → NoEvent a → is_no_event a ≡ true
-ends_run (answer.Event e) none = absurd (none e refl)
-ends_run (answer.NeedMore missing) none = refl
-ends_run answer.Finished none = refl
-ends_run (answer.Refused x) none = refl
+pub ends_run : (a : Result Answer Refusal) → NoEvent a → is_no_event a ≡ true
+ends_run (Ok (answer.Event e)) none = absurd (none e refl)
+ends_run (Ok (answer.NeedMore missing)) none = refl
+ends_run (Ok answer.Finished) none = refl
+ends_run (Err x) none = refl
 
 -- an answer that is no event is the last
-last_stops : (others : TagDecoder → List ℕ → Outcome) (a : Answer) (r : Decoded) (s : List ℕ) → is_no_event a ≡ true → goes_on_with others a r s ≡ ended_by r s
-last_stops others (answer.Event e) r s q = absurd (true≢false (sym q))
-last_stops others (answer.NeedMore missing) r s q = refl
-last_stops others answer.Finished r s q = refl
-last_stops others (answer.Refused x) r s q = refl
+last_stops : (others : TagDecoder → List ℕ → Outcome) (a : Result Answer Refusal) (r : Decoded) (s : List ℕ) → is_no_event a ≡ true → goes_on_with others a r s ≡ ended_by r s
+last_stops others (Ok (answer.Event e)) r s q = absurd (true≢false (sym q))
+last_stops others (Ok (answer.NeedMore missing)) r s q = refl
+last_stops others (Ok answer.Finished) r s q = refl
+last_stops others (Err x) r s q = refl
 
 -- the back of octets are octets
 pub octets_back : (s u : List ℕ) → Octets (s ++ u) → Octets u
@@ -71,13 +73,13 @@ module _ (es ps : List ℕ) where
   abbrev ahead : TagDecoder → List ℕ → ℕ
   ahead d s = 256 * length s + weight d
 
-  fewer : (d : TagDecoder) (s : List ℕ) → Octets s → {e : Event} → (decode es ps d s).answer ≡ answer.Event e → ahead (state_after d s) (rest_after d s) < ahead d s
+  fewer : (d : TagDecoder) (s : List ℕ) → Octets s → {e : Event} → (decode es ps d s).answer ≡ Ok (answer.Event e) → ahead (state_after d s) (rest_after d s) < ahead d s
   fewer d s byte q = rw (length-drop (decode es ps d s).taken s) (event_nearer es ps d s byte q)
 
   -- what is true of a call that ends a run, and of a call with an event where it is true of what that leaves
   module _ (P : TagDecoder → List ℕ → Type 0)
       (at_last : (d : TagDecoder) (s : List ℕ) → Octets s → is_no_event (decode es ps d s).answer ≡ true → P d s)
-      (at-event : (d : TagDecoder) (s : List ℕ) (e : Event) → Octets s → (decode es ps d s).answer ≡ answer.Event e → P (state_after d s) (rest_after d s) → P d s) where
+      (at-event : (d : TagDecoder) (s : List ℕ) (e : Event) → Octets s → (decode es ps d s).answer ≡ Ok (answer.Event e) → P (state_after d s) (rest_after d s) → P d s) where
     one_call_lem : (d : TagDecoder) (s : List ℕ) → Octets s → Kind (decode es ps d s).answer
         → (ahead (state_after d s) (rest_after d s) < ahead d s → P (state_after d s) (rest_after d s)) → P d s
     one_call_lem d s byte (is_event_lem e q) on = at-event d s e byte q (on (fewer d s byte q))
@@ -100,10 +102,10 @@ module _ (es ps : List ℕ) where
   for_stops zero d s q = refl
   for_stops (suc n) d s q = last_stops (run_for n es ps) (decode es ps d s).answer (decode es ps d s) s q
 
-  for_event : (n : ℕ) (d : TagDecoder) (s : List ℕ) {e : Event} → (decode es ps d s).answer ≡ answer.Event e
+  for_event : (n : ℕ) (d : TagDecoder) (s : List ℕ) {e : Event} → (decode es ps d s).answer ≡ Ok (answer.Event e)
       → run_for (suc n) es ps d s ≡ after (with e (decode es ps d s) ∷ []) (run_for n es ps (state_after d s) (rest_after d s))
   unfolding run_for
-  for_event n d s q = ap (λ (a : Answer). goes_on_with (run_for n es ps) a (decode es ps d s) s) q
+  for_event n d s q = ap (λ (a : Result Answer Refusal). goes_on_with (run_for n es ps) a (decode es ps d s) s) q
 
   for_same : (n : ℕ) (d e : TagDecoder) (s : List ℕ) → decode es ps d s ≡ decode es ps e s → run_for n es ps d s ≡ run_for n es ps e s
   unfolding run_for
@@ -118,7 +120,7 @@ module _ (es ps : List ℕ) where
   abbrev Settled : TagDecoder → List ℕ → Type 0
   Settled d s = (n m : ℕ) → Enough n d s → Enough m d s → run_for n es ps d s ≡ run_for m es ps d s
 
-  event_settled : (d : TagDecoder) (s : List ℕ) (e : Event) → Octets s → (decode es ps d s).answer ≡ answer.Event e → Settled (state_after d s) (rest_after d s) → Settled d s
+  event_settled : (d : TagDecoder) (s : List ℕ) (e : Event) → Octets s → (decode es ps d s).answer ≡ Ok (answer.Event e) → Settled (state_after d s) (rest_after d s) → Settled d s
   event_settled d s e byte q on zero m hn hm = absurd (omega (arith, fewer d s byte q, hn (ap is_no_event q)))
   event_settled d s e byte q on (suc n) zero hn hm = absurd (omega (arith, fewer d s byte q, hm (ap is_no_event q)))
   event_settled d s e byte q on (suc n) (suc m) hn hm =
@@ -140,7 +142,7 @@ module _ (es ps : List ℕ) where
   run_stops d s q = for_stops (most_events s) d s q
 
   -- after an event the run goes on with what is left
-  pub run_event : (d : TagDecoder) (s : List ℕ) → Octets s → {e : Event} → (decode es ps d s).answer ≡ answer.Event e
+  pub run_event : (d : TagDecoder) (s : List ℕ) → Octets s → {e : Event} → (decode es ps d s).answer ≡ Ok (answer.Event e)
       → run es ps d s ≡ after (with e (decode es ps d s) ∷ []) (run es ps (state_after d s) (rest_after d s))
   unfolding run
   run_event d s byte {e} q =

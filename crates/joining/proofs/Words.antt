@@ -20,7 +20,6 @@ use Rattle.many_events.specs.Many.{InARow, stopped, on_from, many_calls, one_cal
 use Rattle.many_events.specs.declared.types.Stop.{Stop}
 use Rattle.stored_decoder.specs.Check.{check_words}
 use Rattle.stored_decoder.specs.Words.{decoder_words, record_of}
-use Rattle.stored_decoder.specs.declared.types.Acceptance.TheVariants.{Accepted}
 use Rattle.tag_decoder_laws.proofs.AppendedBytes.{octets_front}
 use Rattle.guarantees.specs.Calls.{decoding}
 use Rattle.decoder_words.specs.Calls.{decode_words}
@@ -30,24 +29,26 @@ use Rattle.joining.specs.Joining.{Handed, Outcome, after, run, onward, joined, i
 use Rattle.joining.specs.Words.{InWords, handed_words, in_words, before, ended, still_to_come, calls_in, HandsOutRun, WordsRun, full, no_more, with_unread, WordsJoin, WordsPieces, none_left, next_piece, WordsTransfer, WordsSameHoweverCut}
 use Rattle.joining.proofs.Joining.{joins, any_pieces}
 use Rattle.joining.proofs.Runs.{Kind, is_event_lem, is_last, kind, ends_run, octets_back, state_after, rest_after, of_any_run, run_stops, run_event, rest_octets}
+use Rattle.std.specs.Prelude.{Err, Ok, Result}
+use Rattle.decoder_rules.specs.declared.types.Refusal.{Refusal}
 
 -- ---- calls in a row
 
 -- an answer that is no event is the last
-last_made : (a : Answer) (n : ℕ) (d : TagDecoder) (others : InARow) → is_no_event a ≡ true → on_from a n d others ≡ stopped (stop_of a) d
+last_made : (a : Result Answer Refusal) (n : ℕ) (d : TagDecoder) (others : InARow) → is_no_event a ≡ true → on_from a n d others ≡ stopped (stop_of a) d
 unfolding stop_of
-last_made (answer.Event e) n d others q = absurd (true≢false (sym q))
-last_made (answer.NeedMore missing) n d others q = refl
-last_made answer.Finished n d others q = refl
-last_made (answer.Refused x) n d others q = refl
+last_made (Ok (answer.Event e)) n d others q = absurd (true≢false (sym q))
+last_made (Ok (answer.NeedMore missing)) n d others q = refl
+last_made (Ok answer.Finished) n d others q = refl
+last_made (Err x) n d others q = refl
 
 -- and then nothing is to come
-none_to_come : (es ps : List ℕ) (a : Answer) (d : TagDecoder) (s : List ℕ) → is_no_event a ≡ true → still_to_come es ps (stop_of a) d s ≡ ended a d s
+none_to_come : (es ps : List ℕ) (a : Result Answer Refusal) (d : TagDecoder) (s : List ℕ) → is_no_event a ≡ true → still_to_come es ps (stop_of a) d s ≡ ended a d s
 unfolding stop_of
-none_to_come es ps (answer.Event e) d s q = absurd (true≢false (sym q))
-none_to_come es ps (answer.NeedMore missing) d s q = refl
-none_to_come es ps answer.Finished d s q = refl
-none_to_come es ps (answer.Refused x) d s q = refl
+none_to_come es ps (Ok (answer.Event e)) d s q = absurd (true≢false (sym q))
+none_to_come es ps (Ok (answer.NeedMore missing)) d s q = refl
+none_to_come es ps (Ok answer.Finished) d s q = refl
+none_to_come es ps (Err x) d s q = refl
 
 -- what was handed out before a run, in words
 handed_after : (l : List Handed) (o : Outcome) → in_words (after l o) ≡ before (map handed_words l) (in_words o)
@@ -72,7 +73,7 @@ module _ (es ps : List ℕ) where
       ap in_words (run_event es ps d s byte q)
       ∙ ap (before (event_words r.state e ∷ [])) on
       ∙ ap (λ (rest : List ℕ). before (event_words r.state e ∷ m.events) (in_words (still_to_come es ps m.stop m.state rest))) (drop-drop m.taken r.taken s)
-      ∙ sym (ap (λ (a : Answer). in_full (on_from a r.taken r.state m) s) q)
+      ∙ sym (ap (λ (a : Result Answer Refusal). in_full (on_from a r.taken r.state m) s) q)
   first_call n d s byte (is_last q) on =
       let r = decode es ps d s in
       let m = calls n r.state (drop r.taken s) in
@@ -89,11 +90,11 @@ module _ (es ps : List ℕ) where
       first_call n d s byte (kind (decode es ps d s).answer) (calls_hand_out n (state_after es ps d s) (rest_after es ps d s) (octets_drop (decode es ps d s).taken s byte))
 
   -- the record after a call, or after the others
-  either : (P : TagDecoder → Type 0) (a : Answer) (n : ℕ) (d : TagDecoder) (others : InARow) → P d → P others.state → P (on_from a n d others).state
-  either P (answer.Event e) n d others p q = q
-  either P (answer.NeedMore missing) n d others p q = p
-  either P answer.Finished n d others p q = p
-  either P (answer.Refused x) n d others p q = p
+  either : (P : TagDecoder → Type 0) (a : Result Answer Refusal) (n : ℕ) (d : TagDecoder) (others : InARow) → P d → P others.state → P (on_from a n d others).state
+  either P (Ok (answer.Event e)) n d others p q = q
+  either P (Ok (answer.NeedMore missing)) n d others p q = p
+  either P (Ok answer.Finished) n d others p q = p
+  either P (Err x) n d others p q = p
 
   -- words hold the record after any of them
   calls_kept : (n : ℕ) (d : TagDecoder) (s : List ℕ) → Octets s → Kept d → Kept (calls n d s).state
@@ -107,7 +108,7 @@ module _ (es ps : List ℕ) where
   -- ---- a call on a decoder's words
 
   -- it hands out the run of the decoder
-  pub hands_out_run : (w s l : List ℕ) → check_words w ≡ Accepted → Octets s → HandsOutRun es ps w s l
+  pub hands_out_run : (w s l : List ℕ) → check_words w ≡ Ok tt → Octets s → HandsOutRun es ps w s l
   unfolding many_events
   hands_out_run w s l c byte =
       let m = calls_in es ps w s l in
@@ -121,20 +122,20 @@ module _ (es ps : List ℕ) where
       }
 
   -- so a run of such calls is the run of the decoder
-  words_run_is : (w s : List ℕ) (o : InWords) → check_words w ≡ Accepted → Octets s → WordsRun es ps w s o → o ≡ in_words (run es ps (record_of w) s)
+  words_run_is : (w s : List ℕ) (o : InWords) → check_words w ≡ Ok tt → Octets s → WordsRun es ps w s o → o ≡ in_words (run es ps (record_of w) s)
   words_run_is _ _ _ c byte (full w s l o f others) =
       let m = calls_in es ps w s l in
       let h = hands_out_run w s l c byte in
       let rest = drop m.taken s in
       ap (before m.events) (words_run_is (decode_words false es ps w s l).1 rest o h.accepted (octets_drop m.taken s byte) others
       ∙ ap (λ (d : TagDecoder). in_words (run es ps d rest)) h.holds
-      ∙ sym (ap (λ (x : Stop). in_words (still_to_come es ps x m.state rest)) f))
+      ∙ sym (ap (λ (x : Result Stop Refusal). in_words (still_to_come es ps x m.state rest)) f))
       ∙ sym h.hands_out
   words_run_is _ _ _ c byte (no_more w s l a none f) =
       let m = calls_in es ps w s l in
       let rest = drop m.taken s in
       ap (λ (x : Outcome). before m.events (in_words x))
-      (sym (none_to_come es ps a m.state rest (ends_run a none)) ∙ sym (ap (λ (x : Stop). still_to_come es ps x m.state rest) f))
+      (sym (none_to_come es ps a m.state rest (ends_run a none)) ∙ sym (ap (λ (x : Result Stop Refusal). still_to_come es ps x m.state rest) f))
       ∙ sym (hands_out_run w s l c byte).hands_out
 
   -- ---- joined
@@ -167,7 +168,7 @@ module _ (es ps : List ℕ) where
       (rest_octets es ps r.state (r.rest ++ b) both) (octets_back b (joined later) bytes) others
 
   -- joining is composition of the calls for C
-  pub words_join : (w a b : List ℕ) → check_words w ≡ Accepted → Octets (a ++ b) → (record_of w).finished ≡ false → (record_of w).position + length (a ++ b) ≤ farthest → WordsJoin es ps w a b
+  pub words_join : (w a b : List ℕ) → check_words w ≡ Ok tt → Octets (a ++ b) → (record_of w).finished ≡ false → (record_of w).position + length (a ++ b) ≤ farthest → WordsJoin es ps w a b
   words_join w a b c byte open_still near =
       let r = run es ps (record_of w) a in
       let front : Octets a = octets_front a b byte in
@@ -184,7 +185,7 @@ module _ (es ps : List ℕ) where
             ∙ ap (λ (i : InWords). with_unread i b) (sym first);
       }
 
-  module _ (w s : List ℕ) (c : check_words w ≡ Accepted) (byte : Octets s) (open_still : (record_of w).finished ≡ false) (near : (record_of w).position + length s ≤ farthest) where
+  module _ (w s : List ℕ) (c : check_words w ≡ (Ok tt)) (byte : Octets s) (open_still : (record_of w).finished ≡ false) (near : (record_of w).position + length s ≤ farthest) where
     -- what a caller in C has is one run on all
     words_transfer_is : (a : List ℕ) (later : List (List ℕ)) (o : InWords) → a ++ joined later ≡ s → WordsTransfer es ps w a later o → o ≡ in_words (run es ps (record_of w) s)
     words_transfer_is a later o is t =

@@ -1,7 +1,7 @@
 -- A run of `decode` calls on the bytes at hand, as a caller makes it until the decoder needs more: a call, and the next
 -- on what that one left, up to the first answer that is no event. Document 02, CR 6: "Run a decoder on bytes a until it
 -- needs more, then on the unread rest followed by b."
-use Rattle.std.specs.Prelude.{ℕ, zero, suc, ◌*◌, ◌≡◌, length, drop}
+use Rattle.std.specs.Prelude.{ℕ, zero, suc, ◌*◌, ◌≡◌, length, drop, Err, Ok, Result}
 use mathlib.Core.List.{List, [], ◌∷◌, ◌++◌, map, flatten}
 use Rattle.decoder_rules.specs.Moving.{decode}
 use Rattle.decoder_rules.specs.declared.types.Answer.{Answer}
@@ -22,7 +22,7 @@ pub record Handed : Type 0 where
 -- with its number and place), the record at its end, and the unread rest
 pub record Outcome : Type 0 where
   pub handed : List Handed
-  pub last : Answer
+  pub last : Result Answer Refusal
   pub state : TagDecoder
   pub rest : List ℕ
 
@@ -44,11 +44,11 @@ with e r = record { event = e; left = r.state }
 
 -- by the answer of a call with the bytes s, whose result is r: an event lets the others follow, any other answer is the
 -- last
-abbrev pub goes_on_with : (TagDecoder → List ℕ → Outcome) → Answer → Decoded → List ℕ → Outcome
-goes_on_with others (answer.Event e) r s = after (with e r ∷ []) (others r.state (drop r.taken s))
-goes_on_with others (answer.NeedMore missing) r s = ended_by r s
-goes_on_with others answer.Finished r s = ended_by r s
-goes_on_with others (answer.Refused x) r s = ended_by r s
+abbrev pub goes_on_with : (TagDecoder → List ℕ → Outcome) → Result Answer Refusal → Decoded → List ℕ → Outcome
+goes_on_with others (Ok (answer.Event e)) r s = after (with e r ∷ []) (others r.state (drop r.taken s))
+goes_on_with others (Ok (answer.NeedMore missing)) r s = ended_by r s
+goes_on_with others (Ok answer.Finished) r s = ended_by r s
+goes_on_with others (Err x) r s = ended_by r s
 
 -- at most n + 1 calls
 unfoldable pub run_for : ℕ → List ℕ → List ℕ → TagDecoder → List ℕ → Outcome
@@ -67,15 +67,15 @@ unfoldable pub run : List ℕ → List ℕ → TagDecoder → List ℕ → Outco
 run es ps d s = run_for (most_events s) es ps d s
 
 -- an answer that is no event
-abbrev pub NoEvent : Answer → Type 0
-NoEvent a = (e : Event) → a ≡ answer.Event e → ⊥
+abbrev pub NoEvent : Result Answer Refusal → Type 0
+NoEvent a = (e : Event) → a ≡ Ok (answer.Event e) → ⊥
 
 -- `run` is what a reader has in mind
 pub record Runs (es ps : List ℕ) (d : TagDecoder) (s : List ℕ) : Type 0 where
   -- a call that answers no event is the whole run
   pub stops : NoEvent (decode es ps d s).answer → run es ps d s ≡ ended_by (decode es ps d s) s
   -- after an event the run goes on with the record and the bytes that the call left
-  pub goes_on : {e : Event} → (decode es ps d s).answer ≡ answer.Event e
+  pub goes_on : {e : Event} → (decode es ps d s).answer ≡ Ok (answer.Event e)
       → run es ps d s ≡ after (with e (decode es ps d s) ∷ []) (run es ps (decode es ps d s).state (drop (decode es ps d s).taken s))
   -- and it comes to an answer that is no event
   pub ends : NoEvent (run es ps d s).last
@@ -102,11 +102,11 @@ in_pieces es ps r (b ∷ later) = in_pieces es ps (onward es ps r b) later
 -- ---- joining is composition
 
 -- the answers that end a run of a decoder that is not finished: need more, and a refusal
-abbrev pub MoreOrRefused : Answer → Type 0
-MoreOrRefused (answer.Event e) = ⊥
-MoreOrRefused (answer.NeedMore missing) = Unit {0}
-MoreOrRefused answer.Finished = ⊥
-MoreOrRefused (answer.Refused x) = Unit {0}
+abbrev pub MoreOrRefused : Result Answer Refusal → Type 0
+MoreOrRefused (Ok (answer.Event e)) = ⊥
+MoreOrRefused (Ok (answer.NeedMore missing)) = Unit {0}
+MoreOrRefused (Ok answer.Finished) = ⊥
+MoreOrRefused (Err x) = Unit {0}
 
 -- of a decoder's record d, and of bytes a and then b
 pub record Joins (es ps : List ℕ) (d : TagDecoder) (a b : List ℕ) : Type 0 where
@@ -118,4 +118,4 @@ pub record Joins (es ps : List ℕ) (d : TagDecoder) (a b : List ℕ) : Type 0 w
   pub composed : run es ps d (a ++ b) ≡ onward es ps (run es ps d a) b
   -- "if a was refused, the joined run is refused at the same place with the same number, after the same events"; its
   -- record is the same, and its rest is a's rest followed by b
-  pub same_refusal : (x : Refusal) → (run es ps d a).last ≡ answer.Refused x → run es ps d (a ++ b) ≡ unread_behind (run es ps d a) b
+  pub same_refusal : (x : Refusal) → (run es ps d a).last ≡ Err x → run es ps d (a ++ b) ≡ unread_behind (run es ps d a) b

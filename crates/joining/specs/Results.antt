@@ -1,7 +1,7 @@
 -- Runs of results: what the routine `decode` returned, call after call, as a caller has them; `Returns d s r` says that
 -- a call on the record d with the bytes s may return r. Which results a routine may return is its contract alone
 -- (guarantees/specs/Results.antt): by value, and with the record lent.
-use Rattle.std.specs.Prelude.{ℕ, List, [], ◌∷◌, ◌++◌, ◌≡◌, drop}
+use Rattle.std.specs.Prelude.{ℕ, List, [], ◌∷◌, ◌++◌, ◌≡◌, drop, Err, Ok}
 use Rattle.decoder_rules.specs.declared.types.Answer.TheVariants as answer
 use Rattle.decoder_rules.specs.declared.types.Decoded.{Decoded}
 use Rattle.decoder_rules.specs.declared.types.Event.{Event}
@@ -28,7 +28,7 @@ module _ (Returns : TagDecoder → List ℕ → Decoded → Type 1) where
   -- calls on the record d with the bytes s, each on what the one before left, up to the first answer that is no event
   pub data RunOf : TagDecoder → List ℕ → Outcome → Type 1 where
     stops : (d : TagDecoder) (s : List ℕ) (r : Decoded) → Returns d s r → NoEvent r.answer → RunOf d s (ended_by r s)
-    goes_on : (d : TagDecoder) (s : List ℕ) (r : Decoded) (e : Event) (o : Outcome) → Returns d s r → r.answer ≡ answer.Event e
+    goes_on : (d : TagDecoder) (s : List ℕ) (r : Decoded) (e : Event) (o : Outcome) → Returns d s r → r.answer ≡ Ok (answer.Event e)
         → RunOf r.state (drop r.taken s) o → RunOf d s (after (with e r ∷ []) o)
 
   -- after a run that gave the first outcome: a run for each piece when it comes, on the unread rest followed by it, and
@@ -47,4 +47,4 @@ module _ (Returns : TagDecoder → List ℕ → Decoded → Type 1) where
   pub record SameHoweverCut (d : TagDecoder) (s : List ℕ) : Type 1 where
     pub same : (a c : List ℕ) (before later : List (List ℕ)) → a ++ joined before ≡ s → c ++ joined later ≡ s → (o p : Outcome) → Transfer d a before o → Transfer d c later p → o ≡ p
     -- and where its front was refused, so is all of it, at the same place with the same number after the same events
-    pub same_refusal : (a b : List ℕ) → a ++ b ≡ s → (o p : Outcome) (x : Refusal) → RunOf d a o → o.last ≡ answer.Refused x → RunOf d s p → p ≡ unread_behind o b
+    pub same_refusal : (a b : List ℕ) → a ++ b ≡ s → (o p : Outcome) (x : Refusal) → RunOf d a o → o.last ≡ Err x → RunOf d s p → p ≡ unread_behind o b

@@ -1,5 +1,5 @@
 -- The run of the decoder that a caller in C holds in words: what the calls with lists of any room hand out of it.
-use Rattle.std.specs.Prelude.{ℕ, ◌/◌, false, List, [], ◌∷◌, ◌++◌, map, ◌≡◌, length, drop}
+use Rattle.std.specs.Prelude.{ℕ, ◌/◌, false, List, [], ◌∷◌, ◌++◌, map, ◌≡◌, length, drop, Err, Ok, Result}
 use Rattle.decoder_rules.specs.declared.types.Answer.{Answer}
 use Rattle.decoder_rules.specs.declared.types.Answer.TheVariants as answer
 use Rattle.decoder_rules.specs.declared.types.Refusal.{Refusal}
@@ -10,7 +10,6 @@ use Rattle.many_events.specs.declared.types.Stop.{Stop}
 use Rattle.many_events.specs.declared.types.Stop.TheVariants as stop
 use Rattle.stored_decoder.specs.Check.{check_words}
 use Rattle.stored_decoder.specs.Words.{decoder_words, record_of}
-use Rattle.stored_decoder.specs.declared.types.Acceptance.TheVariants.{Accepted}
 use Rattle.decoder_words.specs.Calls.{decode_words}
 use Rattle.decoder_words.specs.Replies.{ran_reply}
 use Rattle.joining.specs.Joining.{Handed, Outcome, run, NoEvent, joined}
@@ -18,7 +17,7 @@ use Rattle.joining.specs.Joining.{Handed, Outcome, run, NoEvent, joined}
 -- a run, with the words of each event
 pub record InWords : Type 0 where
   pub events : List (List ℕ)
-  pub last : Answer
+  pub last : Result Answer Refusal
   pub state : TagDecoder
   pub rest : List ℕ
 
@@ -35,15 +34,15 @@ abbrev pub before : List (List ℕ) → InWords → InWords
 before l r = record { events = l ++ r.events; last = r.last; state = r.state; rest = r.rest }
 
 -- nothing more: the run has ended
-abbrev pub ended : Answer → TagDecoder → List ℕ → Outcome
+abbrev pub ended : Result Answer Refusal → TagDecoder → List ℕ → Outcome
 ended a d s = record { handed = []; last = a; state = d; rest = s }
 
 -- by why a call stopped that left the record d and the bytes s: where its list was full the run goes on
-abbrev pub still_to_come : List ℕ → List ℕ → Stop → TagDecoder → List ℕ → Outcome
-still_to_come es ps stop.Full d s = run es ps d s
-still_to_come es ps (stop.NeedMore missing) d s = ended (answer.NeedMore missing) d s
-still_to_come es ps stop.Finished d s = ended answer.Finished d s
-still_to_come es ps (stop.Refused x) d s = ended (answer.Refused x) d s
+abbrev pub still_to_come : List ℕ → List ℕ → Result Stop Refusal → TagDecoder → List ℕ → Outcome
+still_to_come es ps (Ok stop.Full) d s = run es ps d s
+still_to_come es ps (Ok (stop.NeedMore missing)) d s = ended (Ok (answer.NeedMore missing)) d s
+still_to_come es ps (Ok stop.Finished) d s = ended (Ok answer.Finished) d s
+still_to_come es ps (Err x) d s = ended (Err x) d s
 
 -- what a call on the words w with the bytes s and the list l makes
 abbrev pub calls_in : List ℕ → List ℕ → List ℕ → List ℕ → List ℕ → InARow
@@ -54,7 +53,7 @@ pub record HandsOutRun (es ps w s l : List ℕ) : Type 0 where
   -- its reply, the words and the list
   pub gives : decode_words false es ps w s l ≡ (ran_reply (ran_of (calls_in es ps w s l)), decoder_words (calls_in es ps w s l).state, listed (calls_in es ps w s l).events l)
   -- the words are a decoder's again, and hold the record that it left
-  pub accepted : check_words (decode_words false es ps w s l).1 ≡ Accepted
+  pub accepted : check_words (decode_words false es ps w s l).1 ≡ Ok tt
   pub holds : record_of (decode_words false es ps w s l).1 ≡ (calls_in es ps w s l).state
   -- the run of the decoder in w is what this call hands out, and then what is still to come
   pub hands_out : in_words (run es ps (record_of w) s)
@@ -65,9 +64,9 @@ pub record HandsOutRun (es ps w s l : List ℕ) : Type 0 where
 -- calls on the words w with the bytes s, each with a list of any room, on the words and the bytes that the one before
 -- left, as long as the list was full; and what they gave
 pub data WordsRun (es ps : List ℕ) : List ℕ → List ℕ → InWords → Type 0 where
-  full : (w s l : List ℕ) (o : InWords) → (calls_in es ps w s l).stop ≡ stop.Full → WordsRun es ps (decode_words false es ps w s l).1 (drop (calls_in es ps w s l).taken s) o
+  full : (w s l : List ℕ) (o : InWords) → (calls_in es ps w s l).stop ≡ Ok stop.Full → WordsRun es ps (decode_words false es ps w s l).1 (drop (calls_in es ps w s l).taken s) o
       → WordsRun es ps w s (before (calls_in es ps w s l).events o)
-  no_more : (w s l : List ℕ) (a : Answer) → NoEvent a → (calls_in es ps w s l).stop ≡ stop_of a
+  no_more : (w s l : List ℕ) (a : Result Answer Refusal) → NoEvent a → (calls_in es ps w s l).stop ≡ stop_of a
       → WordsRun es ps w s (before (calls_in es ps w s l).events (in_words (ended a (calls_in es ps w s l).state (drop (calls_in es ps w s l).taken s))))
 
 -- no further call: b stays unread behind the rest
@@ -81,7 +80,7 @@ pub record WordsJoin (es ps w a b : List ℕ) : Type 0 where
   pub composed : (o p q : InWords) → WordsRun es ps w a o → WordsRun es ps (decoder_words o.state) (o.rest ++ b) p → WordsRun es ps w (a ++ b) q → q ≡ before o.events p
   -- where those on a ended in a refusal, calls on a followed by b end in it too: the same events, number, place and
   -- words; the rest is a's rest followed by b
-  pub same_refusal : (o q : InWords) (x : Refusal) → WordsRun es ps w a o → o.last ≡ answer.Refused x → WordsRun es ps w (a ++ b) q → q ≡ with_unread o b
+  pub same_refusal : (o q : InWords) (x : Refusal) → WordsRun es ps w a o → o.last ≡ Err x → WordsRun es ps w (a ++ b) q → q ≡ with_unread o b
 
 -- ---- any number of pieces
 

@@ -8,14 +8,12 @@ use Rattle.basics.proofs.Maps.{map_reversed}
 use Rattle.table.specs.BenchTable.{bench_entries, bench_parts, bench}
 use Rattle.table.specs.Check.{check_table, only_ids}
 use Rattle.table.specs.Table.{data_type_of, path_of, path_ids, is_typed}
-use Rattle.table.specs.declared.types.Checked.TheVariants.{Passed}
 use Rattle.table.specs.declared.types.PathPart.TheVariants.{Id}
 use Rattle.table.proofs.Computing.{table_computes}
 use Rattle.table.proofs.Examples.{checks}
 use Rattle.decoder_rules.specs.declared.types.Answer.TheVariants as answer
 use Rattle.decoder_rules.specs.declared.types.Event.{Event}
 use Rattle.decoder_rules.specs.declared.types.Event.TheVariants.{Start, Data}
-use Rattle.decoder_rules.specs.declared.types.Optional.TheVariants.{Number}
 use Rattle.guarantees.specs.Calls.{Call}
 use Rattle.guarantees.specs.History.{Started}
 use Rattle.guarantees.specs.Promises.{event_id, element_offset, Answers, open_at}
@@ -24,9 +22,10 @@ use Rattle.known_places.specs.KnownPlaces.{place_of, OfPath, KnownHere}
 use Rattle.known_places.proofs.CountedInFile.{counted_in_file}
 use Rattle.known_places.proofs.FromRoot.{from_root}
 use Rattle.known_places.proofs.KnownPlaces.{known_places}
+use Rattle.std.specs.Prelude.{Ok, Some}
 
 -- what is counted in a master is a child of it by the table
-pub counted_children : (es ps : List ℕ) → check_table es ps ≡ Passed → CountedChildren es ps
+pub counted_children : (es ps : List ℕ) → check_table es ps ≡ Ok tt → CountedChildren es ps
 counted_children es ps checked = record {
   child_of_last = λ cs c k e of m around q.
       sym ((known_places es ps checked).place_here cs c k e of)
@@ -46,8 +45,8 @@ ids_of_place : (l : List Started) → path_ids (place_of l) ≡ reverse (map (λ
 ids_of_place l = ids_of_parts (reverse l) ∙ map_reversed (λ (m : Started). m.id) l
 
 -- where the path of an element of the bench table is known, so are the Starts that are open
-ids_by_path : (cs : List Call) (c : Call) → KnownHere bench_entries bench_parts cs c → (e : Event) (o : ℕ) → element_offset e ≡ Number o
-    → Answers bench_entries bench_parts cs c (answer.Event e) → is_typed (data_type_of bench (event_id e)) ≡ true → only_ids (path_of bench (event_id e)) ≡ true
+ids_by_path : (cs : List Call) (c : Call) → KnownHere bench_entries bench_parts cs c → (e : Event) (o : ℕ) → element_offset e ≡ Some o
+    → Answers bench_entries bench_parts cs c (Ok (answer.Event e)) → is_typed (data_type_of bench (event_id e)) ≡ true → only_ids (path_of bench (event_id e)) ≡ true
     → open_ids bench_entries bench_parts cs ≡ reverse (path_ids (path_of bench (event_id e)))
 ids_by_path cs c k e o i a typed ids =
     let of : OfPath bench_entries bench_parts cs c e = record { handed_out = a; offset = o; element = i; typed = typed; ids = ids } in

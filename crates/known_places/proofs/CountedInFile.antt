@@ -14,13 +14,11 @@ use Rattle.basics.proofs.Every.{every_member}
 use Rattle.tools.specs.Bytes.{Octets}
 use Rattle.table.specs.Check.{check_table}
 use Rattle.table.specs.Table.{Entry, table_of}
-use Rattle.table.specs.declared.types.Checked.TheVariants.{Passed}
 use Rattle.tag_parse.specs.declared.types.TagValue.{TagValue}
 use Rattle.decoder_rules.specs.declared.types.Answer.{Answer}
 use Rattle.decoder_rules.specs.declared.types.Answer.TheVariants as answer
 use Rattle.decoder_rules.specs.declared.types.Event.{Event}
 use Rattle.decoder_rules.specs.declared.types.Event.TheVariants as event
-use Rattle.decoder_rules.specs.declared.types.Optional.TheVariants.{Number}
 use Rattle.decoder_rules.specs.declared.types.Search.{Search}
 use Rattle.decoder_rules.specs.declared.types.WaitingEnd.{WaitingEnd}
 use Rattle.guarantees.specs.Calls.{Call, lent, Response, answered, searched, silent, record_after, history, Lent}
@@ -40,6 +38,8 @@ use Rattle.guarantees.proofs.WholeElements.{header_longer, declared_longer}
 use Rattle.known_places.specs.CountedInFile.{Row, no_element, one_more, Children, EndCounts, CountedInFile}
 use Rattle.known_places.specs.KnownPlaces.{ever_implied}
 use Rattle.known_places.proofs.KnownPlaces.{no_parents}
+use Rattle.std.specs.Prelude.{Err, Ok, Result, Some}
+use Rattle.decoder_rules.specs.declared.types.Refusal.{Refusal}
 
 -- ---- how far the open masters are filled
 
@@ -67,7 +67,7 @@ module _ (t : List Entry) (s : List ℕ) where
   child_begins p (m ∷ l) (n ∷ ns) r = (n, refl, r.0, r.1)
 
   -- one child more, which ends at the position f
-  child_ends : (p f : ℕ) (l : List Started) (ns : List ℕ) → declared_end t p (drop p s) ≡ Number f → Rows p l ns → Rows f l (child_of_first ns)
+  child_ends : (p f : ℕ) (l : List Started) (ns : List ℕ) → declared_end t p (drop p s) ≡ Some f → Rows p l ns → Rows f l (child_of_first ns)
   child_ends p f [] [] e r = tt
   child_ends p f [] (n ∷ ns) e r = r
   child_ends p f (m ∷ l) [] e r = r
@@ -76,7 +76,7 @@ module _ (t : List Entry) (s : List ℕ) where
       (record { its = k.its; read = k.read; end = k.end; row = one_more n p f k.row e }, r.1)
 
   -- the first ends at the position
-  first_ends : (p : ℕ) (m : Started) (l : List Started) (n : ℕ) (ns : List ℕ) → m.end ≡ Number p → Rows p (m ∷ l) (n ∷ ns) → Rows p l ns
+  first_ends : (p : ℕ) (m : Started) (l : List Started) (n : ℕ) (ns : List ℕ) → m.end ≡ Some p → Rows p (m ∷ l) (n ∷ ns) → Rows p l ns
   first_ends p m [] n [] e r = tt
   first_ends p m [] n (i ∷ ns) e r = r.1
   first_ends p m (o ∷ l) n [] e r = r.1
@@ -97,7 +97,7 @@ module _ (t : List Entry) (s : List ℕ) where
 -- ---- one call, at the position p on the front b of what is there
 
 module _ (t : List Entry) (s : List ℕ) (p : ℕ) (b v : List ℕ) (byte : Octets b) (lies : b ++ v ≡ drop p s) where
-  start_filled : (x n : ℕ) (l : List Started) (ns : List ℕ) → HeaderAlone t b n → (e : ℕ) → declared_end t p b ≡ Number e → EndsInside e l → Filled t s p l ns
+  start_filled : (x n : ℕ) (l : List Started) (ns : List ℕ) → HeaderAlone t b n → (e : ℕ) → declared_end t p b ≡ Some e → EndsInside e l → Filled t s p l ns
       → Filled t s (p + n) (record { id = x; offset = p; end = declared_end t p b } ∷ l) (0 ∷ child_of_first ns)
   start_filled x n l ns h e q ends k =
       let m : Started = record { id = x; offset = p; end = declared_end t p b } in
@@ -114,7 +114,7 @@ module _ (t : List Entry) (s : List ℕ) (p : ℕ) (b v : List ℕ) (byte : Octe
           child_begins t s p l ns k.rows,
         );
         inside = λ o i f g.
-            ⊎_elim (λ (same : o ≡ m). let y : Number e ≡ Number f = sym q ∙ sym (ap (λ (a : Started). a.end) same) ∙ g in let u : e ≡ f = cc in omega (arith, near, u))
+            ⊎_elim (λ (same : o ≡ m). let y : Some e ≡ Some f = sym q ∙ sym (ap (λ (a : Started). a.end) same) ∙ g in let u : e ≡ f = cc in omega (arith, near, u))
             (λ (j : Memᴰ o l). omega (arith, near, ends o j f g)) (mathlib.Core.List.Memᴰ.cases_cons i);
       }
 
@@ -122,7 +122,7 @@ module _ (t : List Entry) (s : List ℕ) (p : ℕ) (b v : List ℕ) (byte : Octe
   data-filled strict n w l ns h ends k =
       record { rows = child_ends t s p (p + n) l ns (declared_longer t s b v p h.its byte lies h.read ∙ data-end strict t b p n w h) k.rows; inside = ends }
 
-  end_filled : (n : ℕ) (l : List Started) (ns : List ℕ) → n ≡ 0 → ((m : Started) (rest : List Started) → l ≡ m ∷ rest → m.end ≡ Number p) → Filled t s p l ns → Filled t s (p + n) (drop 1 l) (drop 1 ns)
+  end_filled : (n : ℕ) (l : List Started) (ns : List ℕ) → n ≡ 0 → ((m : Started) (rest : List Started) → l ≡ m ∷ rest → m.end ≡ Some p) → Filled t s p l ns → Filled t s (p + n) (drop 1 l) (drop 1 ns)
   end_filled n [] [] z full k = filled_on t s n z k
   end_filled n [] (i ∷ ns) z full k = absurd k.rows
   end_filled n (m ∷ l) [] z full k = absurd k.rows
@@ -131,29 +131,29 @@ module _ (t : List Entry) (s : List ℕ) (p : ℕ) (b v : List ℕ) (byte : Octe
 
   -- what any call tells
   told-filled : (strict off : Bool) (l : List Started) (ns left : List ℕ) (x : Response) → ResponseFacts t off b l left p x → MeasuredResponse strict t b p x
-      → ((a : Answer) (n : ℕ) → x ≡ answered a n → is_element a ≡ false → n ≡ 0) → ((a : Search) (n : ℕ) → x ≡ searched a n → ⊥)
-      → ((e : Event) (o n f : ℕ) → x ≡ answered (answer.Event e) n → element_offset e ≡ Number o → declared_end t o b ≡ Number f → EndsInside f l)
-      → ((end : WaitingEnd) (n : ℕ) → x ≡ answered (answer.Event (event.End end)) n → (m : Started) (rest : List Started) → l ≡ m ∷ rest → m.end ≡ Number p)
+      → ((a : Result Answer Refusal) (n : ℕ) → x ≡ answered a n → is_element a ≡ false → n ≡ 0) → ((a : Result Search Refusal) (n : ℕ) → x ≡ searched a n → ⊥)
+      → ((e : Event) (o n f : ℕ) → x ≡ answered (Ok (answer.Event e)) n → element_offset e ≡ Some o → declared_end t o b ≡ Some f → EndsInside f l)
+      → ((end : WaitingEnd) (n : ℕ) → x ≡ answered (Ok (answer.Event (event.End end))) n → (m : Started) (rest : List Started) → l ≡ m ∷ rest → m.end ≡ Some p)
       → every (λ (m : Started). is_known_end m.end) (after_response t b x l) ≡ true → Filled t s p l ns → Filled t s (p + taken_in x) (after_response t b x l) (counts_by x ns)
   unfolding every
-  told-filled strict off l ns left (answered (answer.Event (event.Start x o)) n) f m none unsearched ends full known k =
+  told-filled strict off l ns left (answered (Ok (answer.Event (event.Start x o))) n) f m none unsearched ends full known k =
       let e = known_end_lem (declared_end t o b) (both (is_known_end (declared_end t o b)) _ known).left in
       let at : o ≡ p = f.1.offset in
       subst (λ (z : ℕ). Filled t s (p + n) (record { id = x; offset = z; end = declared_end t z b } ∷ l) (0 ∷ child_of_first ns)) (sym at)
       (start_filled x n l ns m e.0 (ap (λ (z : ℕ). declared_end t z b) (sym at) ∙ e.1) (ends (event.Start x o) o n e.0 refl refl e.1) k)
-  told-filled strict off l ns left (answered (answer.Event (event.End end)) n) f m none unsearched ends full known k = end_filled n l ns (none _ n refl refl) (full end n refl) k
-  told-filled strict off l ns left (answered (answer.Event (event.Data x o w)) n) f m none unsearched ends full known k =
+  told-filled strict off l ns left (answered (Ok (answer.Event (event.End end))) n) f m none unsearched ends full known k = end_filled n l ns (none _ n refl refl) (full end n refl) k
+  told-filled strict off l ns left (answered (Ok (answer.Event (event.Data x o w))) n) f m none unsearched ends full known k =
       data-filled strict n w l ns m
       (ends (event.Data x o w) o n (p + n) refl refl (ap (λ (z : ℕ). declared_end t z b) f.1.offset ∙ data-end strict t b p n w m)) k
-  told-filled strict off l ns left (answered (answer.NeedMore missing) n) f m none unsearched ends full known k = filled_on t s n (none _ n refl refl) k
-  told-filled strict off l ns left (answered answer.Finished n) f m none unsearched ends full known k = filled_on t s n (none _ n refl refl) k
-  told-filled strict off l ns left (answered (answer.Refused r) n) f m none unsearched ends full known k = filled_on t s n (none _ n refl refl) k
+  told-filled strict off l ns left (answered (Ok (answer.NeedMore missing)) n) f m none unsearched ends full known k = filled_on t s n (none _ n refl refl) k
+  told-filled strict off l ns left (answered (Ok answer.Finished) n) f m none unsearched ends full known k = filled_on t s n (none _ n refl refl) k
+  told-filled strict off l ns left (answered (Err r) n) f m none unsearched ends full known k = filled_on t s n (none _ n refl refl) k
   told-filled strict off l ns left (searched a n) f m none unsearched ends full known k = absurd (unsearched a n refl)
   told-filled strict off l ns left silent f m none unsearched ends full known k = filled_on t s 0 refl k
 
 -- ---- any calls
 
-module _ (es ps : List ℕ) (checked : check_table es ps ≡ Passed) (s : List ℕ) where
+module _ (es ps : List ℕ) (checked : check_table es ps ≡ (Ok tt)) (s : List ℕ) where
   abbrev t : List Entry
   t = table_of es ps
 
@@ -162,14 +162,14 @@ module _ (es ps : List ℕ) (checked : check_table es ps ≡ Passed) (s : List �
 
   -- an End comes where its master ends
   ends_here : (cs : List Call) (c : Call) → Lent (c ∷ cs) → child_test_never_off cs ≡ true → every_known t (history es ps cs) ≡ true → EndsInside (position_at es ps cs) (open_at es ps cs)
-      → (end : WaitingEnd) → Answers es ps cs c (answer.Event (event.End end)) → (m : Started) (around : List Started) → open_at es ps cs ≡ m ∷ around
-      → m.end ≡ Number (position_at es ps cs)
+      → (end : WaitingEnd) → Answers es ps cs c (Ok (answer.Event (event.End end))) → (m : Started) (around : List Started) → open_at es ps cs ≡ m ∷ around
+      → m.end ≡ Some (position_at es ps cs)
   ends_here cs c l on known inside end a m around q =
       let first : Memᴰ m (open_at es ps cs) = subst (Memᴰ m) (sym q) (mathlib.Core.List.Memᴰ.head refl) in
       let f = known_end_lem m.end (every_member (λ (o : Started). is_known_end o.end) (known_open t (history es ps cs) known) first) in
       let full : f.0 ≤ position_at es ps cs = end_is_full es ps cs c (record { checked = checked; octets = l }) on end f.0 m around a q f.1 in
       let z : f.0 ≡ position_at es ps cs = omega (arith, inside m first f.0 f.1, full) in
-      f.1 ∙ ap Number z
+      f.1 ∙ ap Some z
 
   filled_after : (cs : List Call) → Lent cs → InOrder es ps s cs → child_test_never_off cs ≡ true → ever_implied ps t (history es ps cs) ≡ [] → every_known t (history es ps cs) ≡ true → FilledAfter cs
   unfolding Lent InOrder history starts_open position child_counts ever_implied child_test_never_off
@@ -200,7 +200,7 @@ module _ (es ps : List ℕ) (checked : check_table es ps ≡ Passed) (s : List �
   first_children p m around (o ∷ l) (n ∷ ns) q r = let e : o ≡ m = cc in subst (λ (y : Started). Children t s y n p) e r.0
 
   counts_file : (cs : List Call) (c : Call) → Lent (c ∷ cs) → InOrder es ps s (c ∷ cs) → child_test_never_off cs ≡ true → ever_implied ps t (history es ps (c ∷ cs)) ≡ []
-      → every_known t (history es ps cs) ≡ true → (end : WaitingEnd) → Answers es ps cs c (answer.Event (event.End end)) → EndCounts es ps s cs end
+      → every_known t (history es ps cs) ≡ true → (end : WaitingEnd) → Answers es ps cs c (Ok (answer.Event (event.End end))) → EndCounts es ps s cs end
   unfolding Lent InOrder history ever_implied
   counts_file cs c l i on none known end a =
       go (open_at es ps cs) refl (subst (λ (u : List ℕ). EndMatches (open_at es ps cs) u end) left (end_matches es ps cs c (record { checked = checked; octets = l }) end a))
@@ -234,5 +234,5 @@ module _ (es ps : List ℕ) (checked : check_table es ps ≡ Passed) (s : List �
       }
 
 -- an End's count is the number of its master's children in the file, of every table that the check passes
-pub counted_in_file : (es ps : List ℕ) → check_table es ps ≡ Passed → CountedInFile es ps
+pub counted_in_file : (es ps : List ℕ) → check_table es ps ≡ Ok tt → CountedInFile es ps
 counted_in_file es ps checked = record { end_counts_lem = λ s. counts_file es ps checked s }

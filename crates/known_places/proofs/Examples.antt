@@ -10,8 +10,6 @@ use Rattle.basics.specs.Lists.{every}
 use Rattle.table.specs.BenchTable.{bench_entries, bench_parts}
 use Rattle.table.specs.Check.{check_table}
 use Rattle.table.specs.Table.{table_of, path_of}
-use Rattle.table.specs.declared.types.Bound.TheVariants.{NotGiven}
-use Rattle.table.specs.declared.types.Checked.TheVariants.{Fault}
 use Rattle.table.specs.declared.types.PathPart.{PathPart}
 use Rattle.table.specs.declared.types.PathPart.TheVariants.{Id, Global}
 use Rattle.table.specs.declared.types.Rule.TheVariants.{GlobalInMaster}
@@ -26,6 +24,8 @@ use Rattle.guarantees.specs.UnknownEnds.{standing_at}
 use Rattle.guarantees.proofs.Computing.{history_computes}
 use Rattle.guarantees.proofs.Examples.{lending, d1}
 use Rattle.known_places.specs.KnownPlaces.{hierarchy_test_on, hierarchy_test_never_off, never_strict, ever_implied, place_of}
+use Rattle.std.specs.Prelude.{Err, None, Ok}
+use Rattle.table.specs.declared.types.TableError.TheVariants as fault
 
 -- what document 02 asks of the calls cs and then c: never strict, the test never off, no recovery, the parents that
 -- were implied, and whether every Start is of known size
@@ -85,44 +85,44 @@ pub record Found : Type 0 where
   -- D1 at its Amount: all is met
   pub d1_asked : asked bench_entries bench_parts at_amount (ending (drop 5 d1)) ≡ (true, true, true, [], true)
   pub d1_found : found bench_entries bench_parts at_amount (ending (drop 5 d1)) 0xA2
-      ≡ (answered (Event (Data 0xA2 5 (UnsignedInt 120))) 3, Id 0x4E01 ∷ Id 0xA1 ∷ [], Id 0x4E01 ∷ Id 0xA1 ∷ [])
+      ≡ (answered (Ok (Event (Data 0xA2 5 (UnsignedInt 120)))) 3, Id 0x4E01 ∷ Id 0xA1 ∷ [], Id 0x4E01 ∷ Id 0xA1 ∷ [])
   -- D1 so too where less is asked
   pub less_asked : asked bench_entries bench_parts asked_less (ending (drop 5 d1)) ≡ (false, false, false, [], true)
   pub less_needed : needed bench_entries bench_parts asked_less (ending (drop 5 d1)) ≡ (true, [], true)
   pub less_found : found bench_entries bench_parts asked_less (ending (drop 5 d1)) 0xA2
-      ≡ (answered (Event (Data 0xA2 5 (UnsignedInt 120))) 3, Id 0x4E01 ∷ Id 0xA1 ∷ [], Id 0x4E01 ∷ Id 0xA1 ∷ [])
+      ≡ (answered (Ok (Event (Data 0xA2 5 (UnsignedInt 120)))) 3, Id 0x4E01 ∷ Id 0xA1 ∷ [], Id 0x4E01 ∷ Id 0xA1 ∷ [])
   -- D4: a size is Unknown, and a root starts inside Session and Feed
   pub d4_asked : asked bench_entries bench_parts (lending (3 ∷ 2 ∷ []) d4 []) (ending (drop 5 d4)) ≡ (true, true, true, [], false)
   pub d4_found : found bench_entries bench_parts (lending (3 ∷ 2 ∷ []) d4 []) (ending (drop 5 d4)) 0x4E01
-      ≡ (answered (Event (Start 0x4E01 5)) 3, Id 0x4E01 ∷ Id 0xA1 ∷ [], [])
+      ≡ (answered (Ok (Event (Start 0x4E01 5))) 3, Id 0x4E01 ∷ Id 0xA1 ∷ [], [])
   -- D5: parents are implied, and no Start is open at Amount
   pub d5_asked : asked bench_entries bench_parts [] (ending amount) ≡ (true, true, true, 0xA1 ∷ 0x4E01 ∷ [], true)
   pub d5_found : found bench_entries bench_parts [] (ending amount) 0xA2
-      ≡ (answered (Event (Data 0xA2 0 (UnsignedInt 120))) 3, [], Id 0x4E01 ∷ Id 0xA1 ∷ [])
+      ≡ (answered (Ok (Event (Data 0xA2 0 (UnsignedInt 120)))) 3, [], Id 0x4E01 ∷ Id 0xA1 ∷ [])
   -- the test is off, and Amount stands in Session
   pub off_asked : asked bench_entries bench_parts in_session (ending amount) ≡ (true, false, true, [], true)
   pub off_found : found bench_entries bench_parts in_session (ending amount) 0xA2
-      ≡ (answered (Event (Data 0xA2 3 (UnsignedInt 120))) 3, Id 0x4E01 ∷ [], Id 0x4E01 ∷ Id 0xA1 ∷ [])
+      ≡ (answered (Ok (Event (Data 0xA2 3 (UnsignedInt 120)))) 3, Id 0x4E01 ∷ [], Id 0x4E01 ∷ Id 0xA1 ∷ [])
   -- a path that is not all IDs: Void in Session, which goes anywhere
   pub void_asked : asked bench_entries bench_parts (before 0xEC []) (ending (0xEC ∷ 0x80 ∷ [])) ≡ (true, true, true, [], true)
   pub void_found : found bench_entries bench_parts (before 0xEC []) (ending (0xEC ∷ 0x80 ∷ [])) 0xEC
-      ≡ (answered (Event (Data 0xEC 3 (Binary (record { begin = 5; end = 5 })))) 2, Id 0x4E01 ∷ [], Global NotGiven NotGiven ∷ [])
+      ≡ (answered (Ok (Event (Data 0xEC 3 (Binary (record { begin = 5; end = 5 }))))) 2, Id 0x4E01 ∷ [], Global None None ∷ [])
   -- an ID of no type: 81 in Session, where unknown IDs are allowed
   pub untyped_asked : asked bench_entries bench_parts (before 0x81 (allow true false false ∷ [])) (ending (0x81 ∷ 0x80 ∷ [])) ≡ (true, true, true, [], true)
   pub untyped_found : found bench_entries bench_parts (before 0x81 (allow true false false ∷ [])) (ending (0x81 ∷ 0x80 ∷ [])) 0x81
-      ≡ (answered (Event (Data 0x81 3 (Raw (record { begin = 5; end = 5 })))) 2, Id 0x4E01 ∷ [], [])
+      ≡ (answered (Ok (Event (Data 0x81 3 (Raw (record { begin = 5; end = 5 }))))) 2, Id 0x4E01 ∷ [], [])
   -- the check refuses the table, and a root starts inside 81, which settling has dropped
-  pub loose_refused : check_table loose_entries loose_parts ≡ Fault GlobalInMaster 0
+  pub loose_refused : check_table loose_entries loose_parts ≡ Err (fault.Fault GlobalInMaster 0)
   pub loose_asked : asked loose_entries loose_parts in_loose (ending (0x82 ∷ 0x80 ∷ [])) ≡ (true, true, true, [], true)
-  pub loose_found : found loose_entries loose_parts in_loose (ending (0x82 ∷ 0x80 ∷ [])) 0x82 ≡ (answered (Event (Start 0x82 2)) 2, Id 0x81 ∷ [], [])
+  pub loose_found : found loose_entries loose_parts in_loose (ending (0x82 ∷ 0x80 ∷ [])) 0x82 ≡ (answered (Ok (Event (Start 0x82 2))) 2, Id 0x81 ∷ [], [])
   -- strictly D4 is refused by 16
   pub d4_strictly : refusal_of (last_response bench_entries bench_parts (lending (3 ∷ 2 ∷ []) d4 (strictly true ∷ [])) (ending (drop 5 d4))) ≡ 16
   -- with the test off it is read as ported
   pub d4_strictly_off : found bench_entries bench_parts (lending (3 ∷ 2 ∷ []) d4 (allow false true false ∷ strictly true ∷ [])) (ending (drop 5 d4)) 0x4E01
-      ≡ (answered (Event (Start 0x4E01 5)) 3, Id 0x4E01 ∷ Id 0xA1 ∷ [], [])
+      ≡ (answered (Ok (Event (Start 0x4E01 5))) 3, Id 0x4E01 ∷ Id 0xA1 ∷ [], [])
   -- and where both are of Unknown size, both have had their End before the second Session starts
   pub open4_strictly : found bench_entries bench_parts (lending (3 ∷ 2 ∷ 0 ∷ 0 ∷ []) open4 (strictly true ∷ [])) (ending (drop 5 open4)) 0x4E01
-      ≡ (answered (Event (Start 0x4E01 5)) 3, [], [])
+      ≡ (answered (Ok (Event (Start 0x4E01 5))) 3, [], [])
   -- strictly D5's implied parents stand, and are the path
   pub d5_strictly : place_of (standing_at bench_entries bench_parts (strictly true ∷ []) (ending amount)) ≡ Id 0x4E01 ∷ Id 0xA1 ∷ []
 

@@ -11,13 +11,10 @@ use Rattle.basics.proofs.Bools.{pick, and_both}
 use Rattle.tools.specs.Bytes.{Octets}
 use Rattle.table.specs.Check.{check_table, only_ids}
 use Rattle.table.specs.Table.{Entry, table_of, data_type_of, path_of, is_typed, parts_of, parts_in}
-use Rattle.table.specs.declared.types.Checked.TheVariants.{Passed}
 use Rattle.table.specs.declared.types.PathPart.{PathPart}
 use Rattle.table.proofs.Entries.{path_of_lem}
 use Rattle.spec_util.specs.declared.types.OpenTag.{OpenTag}
 use Rattle.tag_parse.specs.Header.{read_header}
-use Rattle.tag_parse.specs.declared.types.ReadHeader.{ReadHeader}
-use Rattle.tag_parse.specs.declared.types.ReadHeader.TheVariants as header
 use Rattle.tag_parse.specs.declared.types.TagHeader.{TagHeader}
 use Rattle.tag_parse.proofs.Headers.{header_local, header_spec}
 use Rattle.decoder_rules.specs.FirstPlace.{settle_header, settle_at}
@@ -27,8 +24,6 @@ use Rattle.decoder_rules.specs.Record.{implied}
 use Rattle.decoder_rules.specs.declared.types.Answer.{Answer}
 use Rattle.decoder_rules.specs.declared.types.Answer.TheVariants as answer
 use Rattle.decoder_rules.specs.declared.types.Event.TheVariants as event
-use Rattle.decoder_rules.specs.declared.types.Note.{Note}
-use Rattle.decoder_rules.specs.declared.types.Note.TheVariants.{NoNote, Settle}
 use Rattle.decoder_rules.specs.declared.types.Search.{Search}
 use Rattle.decoder_rules.specs.declared.types.TagDecoder.{TagDecoder}
 use Rattle.guarantees.specs.Calls.{Call, lent, Response, answered, searched, silent, record_after, history, Lent}
@@ -43,6 +38,12 @@ use Rattle.guarantees.proofs.InOrder.{is_element, takes_none, lends_front, lends
 use Rattle.known_places.specs.FromRoot.{BeginsAtRoot, FromRoot}
 use Rattle.known_places.specs.KnownPlaces.{ever_implied}
 use Rattle.known_places.proofs.KnownPlaces.{known_places}
+use Rattle.std.specs.Prelude.{Err, None, Ok, Option, Result, Some}
+use Rattle.tag_parse.specs.declared.types.ParseError.{ParseError}
+use Rattle.table.specs.declared.types.Path.{Path}
+use Rattle.decoder_rules.specs.declared.types.Refusal.{Refusal}
+use Rattle.tools.specs.declared.status.Status.{Status}
+use Rattle.tools.specs.declared.status.Status.TheVariants as status
 
 -- the first of two tests, where none of them passes
 neither : (a b : Bool) → (a || b) ≡ false → a ≡ false
@@ -57,14 +58,14 @@ module _ (es ps : List ℕ) (s rest : List ℕ) (w : BeginsAtRoot (table_of es p
 
   module _ (b v : List ℕ) (byte : Octets b) (lies : b ++ v ≡ s) where
     -- what is read there is the header of the root
-    same_header : (h : TagHeader) → read_header t b ≡ header.Header h → h ≡ w.its
+    same_header : (h : TagHeader) → read_header t b ≡ Ok (status.Complete h) → h ≡ w.its
     same_header h r =
-        let long : read_header t (b ++ (v ++ rest)) ≡ header.Header h = header_local t b (v ++ rest) (byte 0) (rw r) ∙ r in
+        let long : read_header t (b ++ (v ++ rest)) ≡ Ok (status.Complete h) = header_local t b (v ++ rest) (byte 0) (rw r) ∙ r in
         let all : b ++ (v ++ rest) ≡ s ++ rest = sym (append_assoc b v rest) ∙ ap (λ (y : List ℕ). y ++ rest) lies in
-        let q : header.Header h ≡ header.Header w.its = sym long ∙ ap (read_header t) all ∙ w.read in
+        let q : Ok (status.Complete h) ≡ Ok (status.Complete w.its) = sym long ∙ ap (read_header t) all ∙ w.read in
         cc
 
-    root_parts : (h : TagHeader) → read_header t b ≡ header.Header h → parts_in (parts_of ps) h.path ≡ []
+    root_parts : (h : TagHeader) → read_header t b ≡ Ok (status.Complete h) → parts_in (parts_of ps) h.path ≡ []
     root_parts h r =
         path_of_lem es ps h.id (header_spec t b h r).path ∙ ap (λ (g : TagHeader). path_of t g.id) (same_header h r) ∙ w.root
 
@@ -73,17 +74,17 @@ module _ (es ps : List ℕ) (s rest : List ℕ) (w : BeginsAtRoot (table_of es p
     unfolding settle_at implied_by
     settles_on_none strict = go (read_header t b) refl
       where
-        go : (r : ReadHeader) → read_header t b ≡ r → implied_by ps (settle_header strict t r) ≡ []
-        go (header.NeedMore missing) q = refl
-        go (header.Refused e) q = refl
-        go (header.Header h) q =
-            pick (λ (n : Note). implied_by ps n ≡ []) (good_form strict h.id && (is_typed h.kind && only_ids (path_of t h.id))) (Settle h.path) NoNote
+        go : (r : Result (Status TagHeader) ParseError) → read_header t b ≡ r → implied_by ps (settle_header strict t r) ≡ []
+        go (Ok (status.NeedMore missing)) q = refl
+        go (Err e) q = refl
+        go (Ok (status.Complete h)) q =
+            pick (λ (n : Option Path). implied_by ps n ≡ []) (good_form strict h.id && (is_typed h.kind && only_ids (path_of t h.id))) (Some h.path) None
             (λ e. ap (λ (l : List PathPart). map (λ (m : OpenTag). m.id) (reverse (map implied l))) (root_parts h q)) (λ e. refl)
 
-    note_none : (strict : Bool) (x : Response) → ((a : Search) (n : ℕ) → x ≡ searched a n → ⊥) → implied_by ps (seen_note strict t b x) ≡ []
+    note_none : (strict : Bool) (x : Response) → ((a : Result Search Refusal) (n : ℕ) → x ≡ searched a n → ⊥) → implied_by ps (seen_note strict t b x) ≡ []
     unfolding implied_by
     note_none strict (answered a n) unsearched =
-        pick (λ (n : Note). implied_by ps n ≡ []) (comes_unread (answer_refusal a)) NoNote (settle_at strict t b) (λ e. refl) (λ e. settles_on_none strict)
+        pick (λ (n : Option Path). implied_by ps n ≡ []) (comes_unread (answer_refusal a)) None (settle_at strict t b) (λ e. refl) (λ e. settles_on_none strict)
     note_none strict (searched a n) unsearched = absurd (unsearched a n refl)
     note_none strict silent unsearched = refl
 
@@ -97,13 +98,13 @@ module _ (es ps : List ℕ) (s rest : List ℕ) (w : BeginsAtRoot (table_of es p
 
     -- so a call after which nothing has settled takes nothing
     takes_nothing : (off : Bool) (starts : List Started) (left : List ℕ) (p : ℕ) (e : TagDecoder) (x : Response) → ResponseFacts t off b starts left p x → SettledByResponse t x e
-        → e.settled ≡ false → ((a : Answer) (n : ℕ) → x ≡ answered a n → is_element a ≡ false → n ≡ 0) → ((a : Search) (n : ℕ) → x ≡ searched a n → ⊥) → taken_in x ≡ 0
-    takes_nothing off starts left p e (answered (answer.Event (event.Start x o)) n) f g u none unsearched = absurd (true≢false (sym g ∙ u))
-    takes_nothing off starts left p e (answered (answer.Event (event.End end)) n) f g u none unsearched = none _ n refl refl
-    takes_nothing off starts left p e (answered (answer.Event (event.Data x o v)) n) f g u none unsearched = absurd (true≢false (sym (g (root_settles x f.1.heads)) ∙ u))
-    takes_nothing off starts left p e (answered (answer.NeedMore missing) n) f g u none unsearched = none _ n refl refl
-    takes_nothing off starts left p e (answered answer.Finished n) f g u none unsearched = none _ n refl refl
-    takes_nothing off starts left p e (answered (answer.Refused r) n) f g u none unsearched = none _ n refl refl
+        → e.settled ≡ false → ((a : Result Answer Refusal) (n : ℕ) → x ≡ answered a n → is_element a ≡ false → n ≡ 0) → ((a : Result Search Refusal) (n : ℕ) → x ≡ searched a n → ⊥) → taken_in x ≡ 0
+    takes_nothing off starts left p e (answered (Ok (answer.Event (event.Start x o))) n) f g u none unsearched = absurd (true≢false (sym g ∙ u))
+    takes_nothing off starts left p e (answered (Ok (answer.Event (event.End end))) n) f g u none unsearched = none _ n refl refl
+    takes_nothing off starts left p e (answered (Ok (answer.Event (event.Data x o v))) n) f g u none unsearched = absurd (true≢false (sym (g (root_settles x f.1.heads)) ∙ u))
+    takes_nothing off starts left p e (answered (Ok (answer.NeedMore missing)) n) f g u none unsearched = none _ n refl refl
+    takes_nothing off starts left p e (answered (Ok answer.Finished) n) f g u none unsearched = none _ n refl refl
+    takes_nothing off starts left p e (answered (Err r) n) f g u none unsearched = none _ n refl refl
     takes_nothing off starts left p e (searched a n) f g u none unsearched = absurd (unsearched a n refl)
     takes_nothing off starts left p e silent f g u none unsearched = refl
 
@@ -114,7 +115,7 @@ module _ (es ps : List ℕ) (s rest : List ℕ) (w : BeginsAtRoot (table_of es p
     none_implied : ever_implied ps t (history es ps cs) ≡ []
     at_front : has_settled t (history es ps cs) ≡ false → position_at es ps cs ≡ 0
 
-  begun : check_table es ps ≡ Passed → (cs : List Call) → Lent cs → InOrder es ps s cs → Begun cs
+  begun : check_table es ps ≡ Ok tt → (cs : List Call) → Lent cs → InOrder es ps s cs → Begun cs
   unfolding Lent InOrder record_after history position ever_implied has_settled
   begun checked [] l i = record { none_implied = refl; at_front = λ e. refl }
   begun checked (c ∷ cs) l i =
@@ -141,7 +142,7 @@ module _ (es ps : List ℕ) (s rest : List ℕ) (w : BeginsAtRoot (table_of es p
       }
 
 -- a record that begins with a root implies no parent, of every table that the check passes
-pub from_root : (es ps : List ℕ) → check_table es ps ≡ Passed → FromRoot es ps
+pub from_root : (es ps : List ℕ) → check_table es ps ≡ Ok tt → FromRoot es ps
 from_root es ps checked = record {
   none_implied = λ s rest w cs l i. (begun es ps s rest w checked cs l i).none_implied;
   known_here = λ s rest w cs c l i on known. (known_places es ps checked).known_before cs c l on (begun es ps s rest w checked (c ∷ cs) l i).none_implied known;

@@ -13,7 +13,6 @@ use Rattle.basics.proofs.Maps.{map_reversed, every_mapped}
 use Rattle.tools.specs.Bytes.{Octets}
 use Rattle.table.specs.Check.{check_table, only_ids}
 use Rattle.table.specs.Table.{Entry, table_of, data_type_of, path_of, path_ids, is_typed}
-use Rattle.table.specs.declared.types.Checked.TheVariants.{Passed}
 use Rattle.table.specs.declared.types.PathPart.{PathPart}
 use Rattle.table.specs.declared.types.PathPart.TheVariants.{Id, Global}
 use Rattle.table.proofs.Consequences.{path_masters}
@@ -31,8 +30,6 @@ use Rattle.decoder_rules.specs.Settings.{limited_to}
 use Rattle.decoder_rules.specs.declared.types.Answer.TheVariants as answer
 use Rattle.decoder_rules.specs.declared.types.Event.{Event}
 use Rattle.decoder_rules.specs.declared.types.Event.TheVariants as event
-use Rattle.decoder_rules.specs.declared.types.Optional.{Optional}
-use Rattle.decoder_rules.specs.declared.types.Optional.TheVariants.{Nothing, Number}
 use Rattle.decoder_rules.specs.declared.types.Settings.{Settings}
 use Rattle.decoder_rules.specs.declared.types.TagDecoder.{TagDecoder}
 use Rattle.decoder_rules.proofs.ModeKept.{decode_settings, eof_settings}
@@ -54,6 +51,7 @@ use Rattle.guarantees.proofs.Tied.{as_started, parent_of, Tied, both_empty}
 use Rattle.guarantees.proofs.TopLevel.{known_open, known_before}
 use Rattle.known_places.specs.KnownPlaces.{hierarchy_after, hierarchy_test_on, hierarchy_test_never_off, ever_implied, place_of, stays_before, OfPath, AsAsked, KnownHere, KnownPlaces, StrictPlaces}
 use Rattle.known_places.proofs.Placed.{Handed, decode_handed, eof_handed, strict_ids, open_ids_lem}
+use Rattle.std.specs.Prelude.{Err, None, Ok, Option, Some}
 
 -- ---- masters and their Starts
 
@@ -95,7 +93,7 @@ in_reversed : {A : Type 0} {a : A} {l : List A} → Memᴰ a l → Memᴰ a (rev
 in_reversed {a} (mathlib.Core.List.Memᴰ.head {x} {xs} q) = subst (Memᴰ a) (sym (reverse-cons x xs)) (mathlib.Core.List.Memᴰ.append_right (reverse xs) (mathlib.Core.List.Memᴰ.head q))
 in_reversed {a} (mathlib.Core.List.Memᴰ.tail {x} {xs} m) = subst (Memᴰ a) (sym (reverse-cons x xs)) (mathlib.Core.List.Memᴰ.append_left (x ∷ []) (in_reversed m))
 
-module _ (es ps : List ℕ) (checked : check_table es ps ≡ Passed) (x : ℕ) (typed : is_typed (data_type_of (table_of es ps) x) ≡ true)
+module _ (es ps : List ℕ) (checked : check_table es ps ≡ (Ok tt)) (x : ℕ) (typed : is_typed (data_type_of (table_of es ps) x) ≡ true)
     (ids : only_ids (path_of (table_of es ps) x) ≡ true) where
   abbrev the_table : List Entry
   the_table = table_of es ps
@@ -115,22 +113,22 @@ module _ (es ps : List ℕ) (checked : check_table es ps ≡ Passed) (x : ℕ) (
       subst (λ (k : List Started). every (stays_before the_table x) k ≡ true) (reverse-reverse l) (every_reversed (stays_before the_table x) (reverse l) (rest_stays [] (reverse l) (sym q)))
 
   -- so none of Unknown size is among them that section 6.2 ends
-  none_ended : (l : List Started) → place_of l ≡ path_of the_table x → (m : Started) → Memᴰ m l → m.end ≡ Nothing → EndsUnknownSize the_table m.id x → ⊥
+  none_ended : (l : List Started) → place_of l ≡ path_of the_table x → (m : Started) → Memᴰ m l → m.end ≡ None → EndsUnknownSize the_table m.id x → ⊥
   unfolding untyped_at_root
   none_ended l q m i none ends =
       let parent : Memᴰ (Id m.id) (path_of the_table x) = subst (Memᴰ (Id m.id)) q (mathlib.Core.List.Memᴰ.map (λ (m : Started). Id m.id) (in_reversed i)) in
       let master = path_masters the_table (passed_gives es ps checked) x m.id parent in
       let ended : is_ended_by the_table m.id x ≡ true = (ends_agree es ps checked m.id x master (rw typed)).1 ends in
       let stays : stays_before the_table x m ≡ true = every_member (stays_before the_table x) (path_stays l q) i in
-      false≢true (sym (ap (λ (g : Optional). is_known_end g || not (is_ended_by the_table m.id x)) none ∙ ap not ended) ∙ stays)
+      false≢true (sym (ap (λ (g : Option ℕ). is_known_end g || not (is_ended_by the_table m.id x)) none ∙ ap not ended) ∙ stays)
 
 -- ---- the hierarchy test
 
 module _ (es ps : List ℕ) where
-  limit_keeps : (d : TagDecoder) (n : Optional) → (limited_to d n).settings.allow_hierarchy ≡ d.settings.allow_hierarchy
+  limit_keeps : (d : TagDecoder) (n : Option ℕ) → (limited_to d n).settings.allow_hierarchy ≡ d.settings.allow_hierarchy
   unfolding with_settings
-  limit_keeps d Nothing = refl
-  limit_keeps d (Number n) = refl
+  limit_keeps d None = refl
+  limit_keeps d (Some n) = refl
 
   hierarchy_next : (d : TagDecoder) (c : Call) → not (next es ps d c).settings.allow_hierarchy ≡ hierarchy_after c (not d.settings.allow_hierarchy)
   unfolding with_settings
@@ -160,7 +158,7 @@ octets_of cs c l = l
 
 -- ---- a call that hands out an element, after the calls cs
 
-module _ (es ps : List ℕ) (checked : check_table es ps ≡ Passed) (cs : List Call) (before : Lent cs) where
+module _ (es ps : List ℕ) (checked : check_table es ps ≡ (Ok tt)) (cs : List Call) (before : Lent cs) where
   abbrev t : List Entry
   t = table_of es ps
 
@@ -199,7 +197,7 @@ module _ (es ps : List ℕ) (checked : check_table es ps ≡ Passed) (cs : List 
         stands = stack_is t d _ _ _ k.linked h.none_waiting;
       }
 
-  there : (c : Call) (e : Event) (o n : ℕ) → element_offset e ≡ Number o → Octets (lent c) → response_to es ps now c ≡ answered (answer.Event e) n → There c (event_id e)
+  there : (c : Call) (e : Event) (o n : ℕ) → element_offset e ≡ Some o → Octets (lent c) → response_to es ps now c ≡ answered (Ok (answer.Event e)) n → There c (event_id e)
   there (decoding s) e o n i byte q =
       let a = facts s byte in
       there_by (decoding s) (event_id e) byte a.note (decode_handed es ps now s a.action e o i (cc))
@@ -211,7 +209,7 @@ module _ (es ps : List ℕ) (checked : check_table es ps ≡ Passed) (cs : List 
   there (strictly b) e o n i byte q = let z : ◌≡◌ {A = ℕ} 0 1 = cc in absurd_eq z
   there (limit m) e o n i byte q = let z : ◌≡◌ {A = ℕ} 0 1 = cc in absurd_eq z
 
-module _ (es ps : List ℕ) (checked : check_table es ps ≡ Passed) (cs : List Call) (c : Call) (octets : Lent (c ∷ cs)) (on : hierarchy_test_on cs ≡ true)
+module _ (es ps : List ℕ) (checked : check_table es ps ≡ (Ok tt)) (cs : List Call) (c : Call) (octets : Lent (c ∷ cs)) (on : hierarchy_test_on cs ≡ true)
     (e : Event) (of : OfPath es ps cs c e) where
   abbrev x : ℕ
   x = event_id e
@@ -240,7 +238,7 @@ module _ (es ps : List ℕ) (checked : check_table es ps ≡ Passed) (cs : List 
       by_ids (strict_ids (table_of es ps) k.d (lent c) x k.handed of.typed of.ids test_on k.count b)
 
   -- so section 6.2 ends none of those that stand
-  ended_first : is_strict_after (history es ps cs) ≡ true → (m : Started) → Memᴰ m (standing_at es ps cs c) → m.end ≡ Nothing → EndsUnknownSize (table_of es ps) m.id x → ⊥
+  ended_first : is_strict_after (history es ps cs) ≡ true → (m : Started) → Memᴰ m (standing_at es ps cs c) → m.end ≡ None → EndsUnknownSize (table_of es ps) m.id x → ⊥
   ended_first strict = none_ended es ps checked x of.typed of.ids (standing_at es ps cs c) (strict_standing strict)
 
   -- where no implied parent is left, those that stand are the Starts that are open
@@ -260,13 +258,13 @@ module _ (es ps : List ℕ) (checked : check_table es ps ≡ Passed) (cs : List 
 
 -- where none is left before, none is after
 none_left : (x : Response) (starts : List Started) → left_by x starts [] ≡ []
-none_left (answered (answer.Event (event.Start x o)) n) starts = refl
-none_left (answered (answer.Event (event.End end)) n) [] = refl
-none_left (answered (answer.Event (event.End end)) n) (m ∷ starts) = refl
-none_left (answered (answer.Event (event.Data x o v)) n) starts = refl
-none_left (answered (answer.NeedMore missing) n) starts = refl
-none_left (answered answer.Finished n) starts = refl
-none_left (answered (answer.Refused r) n) starts = refl
+none_left (answered (Ok (answer.Event (event.Start x o))) n) starts = refl
+none_left (answered (Ok (answer.Event (event.End end))) n) [] = refl
+none_left (answered (Ok (answer.Event (event.End end))) n) (m ∷ starts) = refl
+none_left (answered (Ok (answer.Event (event.Data x o v))) n) starts = refl
+none_left (answered (Ok (answer.NeedMore missing)) n) starts = refl
+none_left (answered (Ok answer.Finished) n) starts = refl
+none_left (answered (Err r) n) starts = refl
 none_left (searched a n) starts = refl
 none_left silent starts = refl
 
@@ -295,7 +293,7 @@ module _ (es ps : List ℕ) where
 
 -- ==== known sizes mean known places
 
-module _ (es ps : List ℕ) (checked : check_table es ps ≡ Passed) (cs : List Call) (c : Call) (e : Event) (of : OfPath es ps cs c e) where
+module _ (es ps : List ℕ) (checked : check_table es ps ≡ (Ok tt)) (cs : List Call) (c : Call) (e : Event) (of : OfPath es ps cs c e) where
   known_place : KnownHere es ps cs c → place_of (open_at es ps cs) ≡ path_of (table_of es ps) (event_id e)
   known_place k =
       let t = table_of es ps in
@@ -309,7 +307,7 @@ module _ (es ps : List ℕ) (checked : check_table es ps ≡ Passed) (cs : List 
   known_few k = few es ps checked cs c k.octets k.test_on e of (open_at es ps cs) (known_place k)
 
 -- known sizes mean known places, of every table that the check passes
-pub known_places : (es ps : List ℕ) → check_table es ps ≡ Passed → KnownPlaces es ps
+pub known_places : (es ps : List ℕ) → check_table es ps ≡ Ok tt → KnownPlaces es ps
 known_places es ps checked = record {
   place = λ cs c a e of. known_place es ps checked cs c e of (asked_known es ps cs c a);
   at_most_16 = λ cs c a e of. known_few es ps checked cs c e of (asked_known es ps cs c a);
@@ -322,7 +320,7 @@ known_places es ps checked = record {
 }
 
 -- and strictly places are known whatever the sizes
-pub strict_places : (es ps : List ℕ) → check_table es ps ≡ Passed → StrictPlaces es ps
+pub strict_places : (es ps : List ℕ) → check_table es ps ≡ Ok tt → StrictPlaces es ps
 strict_places es ps checked = record {
   strict_standing = λ cs c l strict on e of. strict_standing es ps checked cs c l on e of strict;
   strict_ended_first = λ cs c l strict on e of. ended_first es ps checked cs c l on e of strict;

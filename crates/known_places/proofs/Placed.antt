@@ -18,7 +18,6 @@ use Rattle.spec_util.specs.declared.types.OpenTag.{OpenTag}
 use Rattle.spec_util.proofs.StrictPlaces.{place_is}
 use Rattle.spec_util.proofs.WalkByRfc.{accepted_in_open}
 use Rattle.tag_parse.specs.Header.{read_header}
-use Rattle.tag_parse.specs.declared.types.ReadHeader.TheVariants.{Header}
 use Rattle.tag_parse.specs.declared.types.TagHeader.{TagHeader}
 use Rattle.tag_parse.proofs.Headers.{header_spec}
 use Rattle.decoder_rules.specs.Record.{opens}
@@ -28,12 +27,13 @@ use Rattle.decoder_rules.specs.Deciding.{decide}
 use Rattle.decoder_rules.specs.EndOfInput.{decode_eof}
 use Rattle.decoder_rules.specs.declared.types.Action.{Action}
 use Rattle.decoder_rules.specs.declared.types.Action.TheVariants as act
+use Rattle.decoder_rules.specs.declared.types.Answer.{Answer}
+use Rattle.decoder_rules.specs.declared.types.Refusal.{Refusal}
 use Rattle.decoder_rules.specs.declared.types.Answer.TheVariants as answer
 use Rattle.decoder_rules.specs.declared.types.Decision.{Decision}
 use Rattle.decoder_rules.specs.declared.types.Decoded.{Decoded}
 use Rattle.decoder_rules.specs.declared.types.Event.{Event}
 use Rattle.decoder_rules.specs.declared.types.Event.TheVariants as event
-use Rattle.decoder_rules.specs.declared.types.Optional.TheVariants.{Number}
 use Rattle.decoder_rules.specs.declared.types.TagDecoder.{TagDecoder}
 use Rattle.decoder_rules.specs.declared.types.WaitingEnd.{WaitingEnd}
 use Rattle.decoder_rules.proofs.EndExits as end
@@ -43,31 +43,34 @@ use Rattle.decoder_rules.proofs.Exits.{Closing, AtElement, HeaderExit, Exit, exi
 use Rattle.decoder_rules.proofs.MoveLaws.{with_note}
 use Rattle.guarantees.specs.Promises.{event_id, element_offset}
 use Rattle.guarantees.proofs.Decided.{Facts}
+use Rattle.std.specs.Prelude.{Err, Ok, Result, Some}
+use Rattle.decoder_rules.specs.declared.types.DecodeError.{DecodeError}
+use Rattle.tools.specs.declared.status.Status.TheVariants as status
 
 -- ---- the place has been tested
 
 -- the header at the front of the bytes is that of the ID x, and has come to step 11; d has the note
 pub record AtId (t : List Entry) (d : TagDecoder) (s : List ℕ) (x : ℕ) : Type 0 where
   pub its : TagHeader
-  pub read : read_header t s ≡ Header its
+  pub read : read_header t s ≡ Ok (status.Complete its)
   pub same_id : its.id ≡ x
   pub at : AtElement t d its
 
 -- so it is where a Start or a Data was decided
-abbrev Placed : List Entry → TagDecoder → List ℕ → Action → Type 0
-Placed t d s (act.Refuse e) = Unit {0}
-Placed t d s (act.NeedMore missing) = Unit {0}
-Placed t d s act.Finish = Unit {0}
-Placed t d s act.HandOut = Unit {0}
-Placed t d s (act.Close k) = Unit {0}
-Placed t d s (act.Start x z len) = AtId t d s x
-Placed t d s (act.Data x v n) = AtId t d s x
+abbrev Placed : List Entry → TagDecoder → List ℕ → Result Action DecodeError → Type 0
+Placed t d s (Err e) = Unit {0}
+Placed t d s (Ok (act.NeedMore missing)) = Unit {0}
+Placed t d s (Ok act.Finish) = Unit {0}
+Placed t d s (Ok act.HandOut) = Unit {0}
+Placed t d s (Ok (act.Close k)) = Unit {0}
+Placed t d s (Ok (act.Start x z len)) = AtId t d s x
+Placed t d s (Ok (act.Data x v n)) = AtId t d s x
 
-closing_placed : (t : List Entry) (d e : TagDecoder) (s : List ℕ) {k : ℕ} {a : Action} → Closing t e k a → Placed t d s a
+closing_placed : (t : List Entry) (d e : TagDecoder) (s : List ℕ) {k : ℕ} {a : Result Action DecodeError} → Closing t e k a → Placed t d s a
 closing_placed t d e s (exit.closes m) = tt
 closing_placed t d e s (exit.no_master_lem m) = tt
 
-header_placed : (t : List Entry) (d : TagDecoder) (s : List ℕ) (h : TagHeader) → read_header t s ≡ Header h → {a : Action} → HeaderExit t d h s a → Placed t d s a
+header_placed : (t : List Entry) (d : TagDecoder) (s : List ℕ) (h : TagHeader) → read_header t s ≡ Ok (status.Complete h) → {a : Result Action DecodeError} → HeaderExit t d h s a → Placed t d s a
 header_placed t d s h is (exit.misplaced e) = tt
 header_placed t d s h is (exit.oversized n p k f) = tt
 header_placed t d s h is (exit.too_large n p k f g) = tt
@@ -102,28 +105,28 @@ pub record Handed (t : List Entry) (d : TagDecoder) (s : List ℕ) (x : ℕ) : T
   pub settled : (is_typed (data_type_of t x) && only_ids (path_of t x)) ≡ true → d.settled ≡ true
 
 -- an End is no such element
-no_element : (end : WaitingEnd) (e : Event) (o : ℕ) → element_offset e ≡ Number o → answer.Event (event.End end) ≡ answer.Event e → ⊥
+no_element : (end : WaitingEnd) (e : Event) (o : ℕ) → element_offset e ≡ Some o → ◌≡◌ {A = Result Answer Refusal} (Ok (answer.Event (event.End end))) (Ok (answer.Event e)) → ⊥
 no_element end (event.Start x p) o i q = let z : ◌≡◌ {A = ℕ} 0 1 = cc in absurd_eq z
 no_element end (event.End f) o i q = let z : ◌≡◌ {A = ℕ} 0 1 = cc in absurd_eq z
 no_element end (event.Data x p v) o i q = let z : ◌≡◌ {A = ℕ} 0 1 = cc in absurd_eq z
 
-module _ (t : List Entry) (d : TagDecoder) (s : List ℕ) (e : Event) (o : ℕ) (i : element_offset e ≡ Number o) where
-  moved_handed : (a : Action) → Placed t d s a → Facts t d s a → (move d a).answer ≡ answer.Event e → Handed t d s (event_id e)
+module _ (t : List Entry) (d : TagDecoder) (s : List ℕ) (e : Event) (o : ℕ) (i : element_offset e ≡ Some o) where
+  moved_handed : (a : Result Action DecodeError) → Placed t d s a → Facts t d s a → (move d a).answer ≡ Ok (answer.Event e) → Handed t d s (event_id e)
   unfolding move
-  moved_handed (act.Refuse x) p f q = let z : ◌≡◌ {A = ℕ} 0 1 = cc in absurd_eq z
-  moved_handed (act.NeedMore missing) p f q = let z : ◌≡◌ {A = ℕ} 0 1 = cc in absurd_eq z
-  moved_handed act.Finish p f q = let z : ◌≡◌ {A = ℕ} 0 1 = cc in absurd_eq z
-  moved_handed act.HandOut p f q = absurd (no_element _ e o i q)
-  moved_handed (act.Close k) p f q = absurd (no_element _ e o i q)
-  moved_handed (act.Start x z len) p f q =
+  moved_handed (Err x) p f q = let z : ◌≡◌ {A = ℕ} 0 1 = cc in absurd_eq z
+  moved_handed (Ok (act.NeedMore missing)) p f q = let z : ◌≡◌ {A = ℕ} 0 1 = cc in absurd_eq z
+  moved_handed (Ok act.Finish) p f q = let z : ◌≡◌ {A = ℕ} 0 1 = cc in absurd_eq z
+  moved_handed (Ok act.HandOut) p f q = absurd (no_element _ e o i q)
+  moved_handed (Ok (act.Close k)) p f q = absurd (no_element _ e o i q)
+  moved_handed (Ok (act.Start x z len)) p f q =
       let w : event.Start x d.position ≡ e = cc in
       subst (λ (e : Event). Handed t d s (event_id e)) w (record { at = p; none_waiting = f.reading.none_waiting; settled = λ _. f.settled })
-  moved_handed (act.Data x v n) p f q =
+  moved_handed (Ok (act.Data x v n)) p f q =
       let w : event.Data x d.position v ≡ e = cc in
       subst (λ (e : Event). Handed t d s (event_id e)) w (record { at = p; none_waiting = f.reading.none_waiting; settled = f.settled })
 
   -- what the end of input adds are Ends
-  ended_none : {r : Decoded} → EndExit t d s r → r.answer ≡ answer.Event e → ⊥
+  ended_none : {r : Decoded} → EndExit t d s r → r.answer ≡ Ok (answer.Event e) → ⊥
   unfolding move
   ended_none (end.bytes_left l) q = let z : ◌≡◌ {A = ℕ} 0 1 = cc in absurd_eq z
   ended_none (end.master_cut z l) q = let z : ◌≡◌ {A = ℕ} 0 1 = cc in absurd_eq z
@@ -132,18 +135,18 @@ module _ (t : List Entry) (d : TagDecoder) (s : List ℕ) (e : Event) (o : ℕ) 
   ended_none (end.closes_all n m l) q = no_element _ e o i q
 
 module _ (es ps : List ℕ) (d : TagDecoder) (s : List ℕ) (facts : Facts (table_of es ps) (with_note es ps d s) s (decide es ps d s).action)
-    (e : Event) (o : ℕ) (i : element_offset e ≡ Number o) where
+    (e : Event) (o : ℕ) (i : element_offset e ≡ Some o) where
   -- a call of `decode`
-  pub decode_handed : (decode es ps d s).answer ≡ answer.Event e → Handed (table_of es ps) (with_note es ps d s) s (event_id e)
+  pub decode_handed : (decode es ps d s).answer ≡ Ok (answer.Event e) → Handed (table_of es ps) (with_note es ps d s) s (event_id e)
   unfolding apply
   decode_handed q = moved_handed (table_of es ps) (with_note es ps d s) s e o i (decide es ps d s).action (exit_placed es ps d s (exits es ps d s)) facts q
 
-  exit_handed : {r : Decoded} → EofExit es ps d s r → r.answer ≡ answer.Event e → Handed (table_of es ps) (with_note es ps d s) s (event_id e)
+  exit_handed : {r : Decoded} → EofExit es ps d s r → r.answer ≡ Ok (answer.Event e) → Handed (table_of es ps) (with_note es ps d s) s (event_id e)
   exit_handed (end.as_decoded q) = decode_handed
   exit_handed (end.at_end q x) = λ r. absurd (ended_none (table_of es ps) (with_note es ps d s) s e o i x r)
 
   -- a call at the end of input
-  pub eof_handed : (decode_eof es ps d s).answer ≡ answer.Event e → Handed (table_of es ps) (with_note es ps d s) s (event_id e)
+  pub eof_handed : (decode_eof es ps d s).answer ≡ Ok (answer.Event e) → Handed (table_of es ps) (with_note es ps d s) s (event_id e)
   eof_handed = exit_handed (eof_exits es ps d s)
 
 -- ---- the open masters of the record are the path

@@ -5,7 +5,6 @@ use mathlib.Core.Path.{◌≡◌, refl}
 use mathlib.Core.List.{List, [], ◌∷◌}
 use lib.ListN.{length, drop}
 use Rattle.table.specs.Check.{check_table}
-use Rattle.table.specs.declared.types.Checked.TheVariants.{Passed}
 use Rattle.tag_parse.specs.declared.types.TagValue.TheVariants.{UnsignedInt}
 use Rattle.decoder_rules.specs.declared.types.Answer.TheVariants.{Event}
 use Rattle.decoder_rules.specs.declared.types.Event.TheVariants.{Data}
@@ -13,6 +12,7 @@ use Rattle.guarantees.specs.Calls.{Call, ending, answered}
 use Rattle.guarantees.specs.Promises.{last_response, open_at}
 use Rattle.guarantees.proofs.Computing.{history_computes}
 use Rattle.guarantees.proofs.Examples.{lending}
+use Rattle.std.specs.Prelude.{Ok}
 
 -- masters 81 to 90, each in the one before, and 91, Unsigned, in the last
 abbrev deep_entries : List ℕ
@@ -60,8 +60,8 @@ at_last = lending (2 ∷ 2 ∷ 2 ∷ 2 ∷ 2 ∷ 2 ∷ 2 ∷ 2 ∷ 2 ∷ 2 ∷ 2
 
 -- there 16 are open
 pub record Sixteen : Type 0 where
-  pub passes : check_table deep_entries deep_parts ≡ Passed
-  pub handed_out : last_response deep_entries deep_parts at_last (ending (drop 32 deep)) ≡ answered (Event (Data 0x91 32 (UnsignedInt 0))) 2
+  pub passes : check_table deep_entries deep_parts ≡ Ok tt
+  pub handed_out : last_response deep_entries deep_parts at_last (ending (drop 32 deep)) ≡ answered (Ok (Event (Data 0x91 32 (UnsignedInt 0)))) 2
   pub all_open : length (open_at deep_entries deep_parts at_last) ≡ 16
 
 -- and it is so

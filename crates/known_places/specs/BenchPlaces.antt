@@ -1,6 +1,6 @@
 -- What known sizes buy, for hospitals: of a night that is read by document 01's bench table, and of what is counted in
 -- it (document 02, CR 10 and CR 12).
-use Rattle.std.specs.Prelude.{ℕ, ◌≡◌, true, List, [], ◌∷◌, ◌++◌, map}
+use Rattle.std.specs.Prelude.{ℕ, ◌≡◌, true, List, [], ◌∷◌, ◌++◌, map, Ok}
 use Rattle.table.specs.BenchTable.{bench_entries, bench_parts, bench}
 use Rattle.table.specs.Table.{table_of, path_of}
 use Rattle.table.specs.declared.types.PathPart.TheVariants.{Id}
@@ -38,17 +38,17 @@ pub record BenchPlaces : Type 0 where
   pub known_night : (night : List ℕ) (cs : List Call) (c : Call) → KnownNight night cs c → KnownHere bench_entries bench_parts cs c
   -- every Amount lies in a Feed of a Session
   pub amount_in_feed : (cs : List Call) (c : Call) → KnownHere bench_entries bench_parts cs c → (o : ℕ) (v : TagValue)
-      → Answers bench_entries bench_parts cs c (answer.Event (Data 0xA2 o v)) → open_ids bench_entries bench_parts cs ≡ 0xA1 ∷ 0x4E01 ∷ []
+      → Answers bench_entries bench_parts cs c (Ok (answer.Event (Data 0xA2 o v))) → open_ids bench_entries bench_parts cs ≡ 0xA1 ∷ 0x4E01 ∷ []
   -- every Feed lies in a Session
   pub feed_in_session : (cs : List Call) (c : Call) → KnownHere bench_entries bench_parts cs c → (o : ℕ)
-      → Answers bench_entries bench_parts cs c (answer.Event (Start 0xA1 o)) → open_ids bench_entries bench_parts cs ≡ 0x4E01 ∷ []
+      → Answers bench_entries bench_parts cs c (Ok (answer.Event (Start 0xA1 o))) → open_ids bench_entries bench_parts cs ≡ 0x4E01 ∷ []
   -- every Session lies at the root
   pub session_at_root : (cs : List Call) (c : Call) → KnownHere bench_entries bench_parts cs c → (o : ℕ)
-      → Answers bench_entries bench_parts cs c (answer.Event (Start 0x4E01 o)) → open_ids bench_entries bench_parts cs ≡ []
+      → Answers bench_entries bench_parts cs c (Ok (answer.Event (Start 0x4E01 o))) → open_ids bench_entries bench_parts cs ≡ []
   -- and the count of a Feed, as that of a Session, is the number of its children in the file, if the child-size test
   -- was never off
   pub counted : (night : List ℕ) (cs : List Call) (c : Call) → KnownNight night cs c → child_test_never_off cs ≡ true → (end : WaitingEnd)
-      → Answers bench_entries bench_parts cs c (answer.Event (End end)) → EndCounts bench_entries bench_parts night cs end
+      → Answers bench_entries bench_parts cs c (Ok (answer.Event (End end))) → EndCounts bench_entries bench_parts night cs end
 
 -- what is counted in a master is a child of it by the table, of the table in these words
 pub record CountedChildren (es ps : List ℕ) : Type 0 where

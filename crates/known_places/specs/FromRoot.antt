@@ -1,18 +1,18 @@
 -- A record that begins with a root, read in order: no parent is ever implied, so that its sizes alone decide whether
 -- places are known.
-use Rattle.std.specs.Prelude.{ℕ, ◌≡◌, true, List, [], ◌∷◌, ◌++◌}
+use Rattle.std.specs.Prelude.{ℕ, ◌≡◌, true, List, [], ◌∷◌, ◌++◌, Ok}
 use Rattle.table.specs.Table.{Entry, table_of, path_of, is_typed}
 use Rattle.tag_parse.specs.Header.{read_header}
-use Rattle.tag_parse.specs.declared.types.ReadHeader.TheVariants.{Header}
 use Rattle.tag_parse.specs.declared.types.TagHeader.{TagHeader}
 use Rattle.guarantees.specs.Calls.{Call, history, Lent}
 use Rattle.guarantees.specs.CutRecords.{InOrder, every_known}
 use Rattle.known_places.specs.KnownPlaces.{hierarchy_test_on, ever_implied, KnownHere}
+use Rattle.tools.specs.declared.status.Status.TheVariants as status
 
 -- the bytes s begin with a root: the header of an ID that has a type and an empty path
 pub record BeginsAtRoot (t : List Entry) (s : List ℕ) : Type 0 where
   pub its : TagHeader
-  pub read : read_header t s ≡ Header its
+  pub read : read_header t s ≡ Ok (status.Complete its)
   pub typed : is_typed its.kind ≡ true
   pub root : path_of t its.id ≡ []
 

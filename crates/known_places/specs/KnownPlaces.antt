@@ -1,7 +1,7 @@
 -- What closed sizes buy (document 02, CR 12): where every master is of known size, the place of an element is the path
 -- that the table gives its ID. Stated of what a caller can tell, the calls and their answers; nothing here is read off
 -- the decoder's record. A list of calls, and a history, stand latest first.
-use Rattle.std.specs.Prelude.{ℕ, ◌+◌, ◌≤◌, ◌≡◌, Bool, true, not, ◌&&◌, ◌||◌, length}
+use Rattle.std.specs.Prelude.{ℕ, ◌+◌, ◌≤◌, ◌≡◌, Bool, true, not, ◌&&◌, ◌||◌, length, None, Ok, Some}
 use mathlib.Core.List.{List, [], ◌∷◌, ◌++◌, map, reverse, Memᴰ}
 use Rattle.basics.specs.Lists.{every}
 use Rattle.table.specs.Check.{only_ids}
@@ -12,7 +12,6 @@ use Rattle.spec_util.specs.Ended.{is_ended_by}
 use Rattle.spec_util.specs.Rfc8794.{EndsUnknownSize}
 use Rattle.decoder_rules.specs.declared.types.Answer.TheVariants as answer
 use Rattle.decoder_rules.specs.declared.types.Event.{Event}
-use Rattle.decoder_rules.specs.declared.types.Optional.TheVariants.{Nothing, Number}
 use Rattle.guarantees.specs.Calls.{Call, decoding, ending, recovering, allow, strictly, limit, lent, Step, history, Lent}
 use Rattle.guarantees.specs.CutRecords.{is_known_end, every_known}
 use Rattle.guarantees.specs.History.{Started, never_recovered}
@@ -76,9 +75,9 @@ stays_before t x m = is_known_end m.end || not (is_ended_by t m.id x)
 
 -- "Start and Data of a typed ID whose path is all IDs": the call c after the calls cs hands out e
 pub record OfPath (es ps : List ℕ) (cs : List Call) (c : Call) (e : Event) : Type 0 where
-  pub handed_out : Answers es ps cs c (answer.Event e)
+  pub handed_out : Answers es ps cs c (Ok (answer.Event e))
   pub offset : ℕ
-  pub element : element_offset e ≡ Number offset
+  pub element : element_offset e ≡ Some offset
   pub typed : is_typed (data_type_of (table_of es ps) (event_id e)) ≡ true
   pub ids : only_ids (path_of (table_of es ps) (event_id e)) ≡ true
 
@@ -133,7 +132,7 @@ pub record StrictPlaces (es ps : List ℕ) : Type 0 where
       → (e : Event) → OfPath es ps cs c e → place_of (standing_at es ps cs c) ≡ path_of (table_of es ps) (event_id e)
   -- so a master of Unknown size that the element ends, by the words of section 6.2, has had its End before
   pub strict_ended_first : (cs : List Call) (c : Call) → Lent (c ∷ cs) → is_strict_after (history es ps cs) ≡ true → hierarchy_test_on cs ≡ true
-      → (e : Event) → OfPath es ps cs c e → (m : Started) → Memᴰ m (standing_at es ps cs c) → m.end ≡ Nothing → EndsUnknownSize (table_of es ps) m.id (event_id e) → ⊥
+      → (e : Event) → OfPath es ps cs c e → (m : Started) → Memᴰ m (standing_at es ps cs c) → m.end ≡ None → EndsUnknownSize (table_of es ps) m.id (event_id e) → ⊥
   -- and the open masters are exactly that path, where no implied parent is left
   pub strict_place : (cs : List Call) (c : Call) → Lent (c ∷ cs) → is_strict_after (history es ps cs) ≡ true → hierarchy_test_on cs ≡ true → left_at es ps cs c ≡ []
       → (e : Event) → OfPath es ps cs c e → place_of (open_at es ps cs) ≡ path_of (table_of es ps) (event_id e)

@@ -1,64 +1,59 @@
-// What the arguments ask for: which list, and how the record is read.
+//! What the arguments ask for: which list, and how the record is read.
 
-use reading::arguments::{argument, is_given, mode_at, same};
-use std::rt::HostRuntime;
+use reading::arguments::{Mode, mode_at};
+use std::env::FillError;
+use std::fmt;
+use std::rt::Env;
 
-// The list of document 01, or the one for people.
-#[derive(Clone, Copy)]
+/// The plain list, or the one for people.
+#[derive(Clone, Copy, Debug, PartialEq, Eq)]
 pub enum List {
     Plain,
     Names,
 }
 
-// The list that is asked for, and whether the record is read strictly, where there is such a list and such a mode.
-#[derive(Clone, Copy)]
+/// The list that is asked for, and how the record is read.
+#[derive(Clone, Copy, Debug, PartialEq, Eq)]
 pub struct Wanted {
     pub list: List,
-    pub strict: bool,
-    pub is_known: bool,
+    pub mode: Mode,
 }
 
-// A list that is there, of the record read as ported.
-fn known(list: List) -> Wanted {
-    Wanted {
-        list,
-        strict: false,
-        is_known: true,
-    }
+/// What an argument names that is not there.
+#[derive(Clone, Copy, Debug, PartialEq, Eq)]
+pub enum Unknown {
+    List,
+    Mode,
 }
 
-// What is not there, and the words that say so.
-fn unknown(rt: &HostRuntime, words: &str) -> Wanted {
-    let _ = rt.eprintln(words);
-    Wanted {
-        list: List::Plain,
-        strict: false,
-        is_known: false,
+impl fmt::Display for Unknown {
+    fn fmt<W: fmt::Write>(&self, f: &mut fmt::Formatter<W>) -> fmt::Result {
+        match self {
+            Unknown::List => write!(f, "the list is plain or names"),
+            Unknown::Mode => write!(f, "the mode is ported or strict"),
+        }
     }
 }
 
-// With no argument the list of document 01; with one or more, the list that the first one names.
-fn list_wanted(rt: &HostRuntime) -> Wanted {
-    if !is_given(rt, 1) {
-        return known(List::Plain);
+// The list that the argument at a place names; the plain one where there is no argument, and `None` where it is another
+// word.
+fn list_at<E: Env>(env: &E, place: usize) -> Option<List> {
+    let mut word = [0u8; 5];
+    match env.arg(place, &mut word) {
+        Ok(n) => match &word[..n] {
+            b"plain" => Some(List::Plain),
+            b"names" => Some(List::Names),
+            _ => None,
+        },
+        Err(FillError::TooLong) => None,
+        Err(FillError::NotPresent) => Some(List::Plain),
     }
-    let word = argument(rt, 1);
-    if same(word, [b'n', b'a', b'm', b'e', b's', 0]) {
-        return known(List::Names);
-    }
-    if same(word, [b'p', b'l', b'a', b'i', b'n', 0]) {
-        return known(List::Plain);
-    }
-    unknown(rt, "lister: the list is plain or names")
 }
 
-// The list, and the mode that the second argument names, if there is one.
-pub fn what_is_wanted(rt: &HostRuntime) -> Wanted {
-    let mode = mode_at(rt, 2);
-    if mode.is_known {
-        let mut wanted = list_wanted(rt);
-        wanted.strict = mode.strict;
-        return wanted;
-    }
-    unknown(rt, "lister: the mode is ported or strict")
+/// The list that the first argument names and the mode that the second one does. Of two that are not there, the mode is
+/// told.
+pub fn what_is_wanted<E: Env>(env: &E) -> Result<Wanted, Unknown> {
+    let mode = mode_at(env, 2).ok_or(Unknown::Mode)?;
+    let list = list_at(env, 1).ok_or(Unknown::List)?;
+    Ok(Wanted { list, mode })
 }

@@ -1,36 +1,49 @@
-// The exit status of a list, as a digit.
+//! The exit status of a list, as a digit.
 
 ghost use Rattle.std.specs.Prelude.{◌≡◌};
-ghost use Rattle.lister.specs.Status.{status_of};
+ghost use Rattle.lister.specs.Status.{status_of, digit_of};
 
-use decoder_rules::types::Answer;
+use decoder_rules::types::{Answer, Refusal};
 use reading::arguments::is_given;
 use std::process::ExitCode;
 use std::rt::HostRuntime;
 
-// A list without a last line.
-pub const BROKEN: u8 = b'2';
+/// How a list ended, as the digit that tells it.
+#[derive(Clone, Copy, Debug, PartialEq, Eq)]
+pub enum Status {
+    /// With the finish.
+    Finished = 48,
+    /// With a refusal, or with an element that is larger than the buffer.
+    Refused = 49,
+    /// Without a last line.
+    Broken = 50,
+}
 
-// The list goes on: no status yet.
-pub const GOES_ON: u8 = 0;
-
-// The status of a list that ends with an answer.
-pub fn status_of(answer: Answer) -> u8
-    ensures { result ≡ status_of answer }
+/// The status of a list that ends with an answer.
+pub fn status_of(answer: Result<Answer, Refusal>) -> Status
+    ensures { digit_of result ≡ status_of answer }
 {
     match answer {
-        Answer::Event(_) => BROKEN,
-        Answer::NeedMore { .. } => b'1',
-        Answer::Finished => b'0',
-        Answer::Refused(_) => b'1',
+        Ok(Answer::Event(_)) => Status::Broken,
+        Ok(Answer::NeedMore { .. }) => Status::Refused,
+        Ok(Answer::Finished) => Status::Finished,
+        Err(_) => Status::Refused,
     }
 }
 
-// The exit status that tells a status to whoever asked for it, by an argument: the digit's own number, which no program
-// has that did not start or that broke off. 0 where nobody asked.
-pub fn tell(rt: &HostRuntime, status: u8) -> ExitCode {
+// The digit of a status.
+fn digit_of(status: Status) -> u8
+    ensures { result ≡ digit_of status }
+{
+    status as u8
+}
+
+/// The exit status that tells a status to whoever asked for it, by an argument: the digit's own number, which no program
+/// has that did not start or that broke off. 0 where nobody asked.
+pub fn tell(rt: &HostRuntime, status: Status) -> ExitCode {
     if is_given(rt, 1) {
-        return ExitCode::from(status);
+        ExitCode::from(digit_of(status))
+    } else {
+        ExitCode::SUCCESS
     }
-    ExitCode::SUCCESS
 }

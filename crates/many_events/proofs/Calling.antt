@@ -27,6 +27,8 @@ use Rattle.decoder_move.proofs.DecisionApplies.{decide_applies, starts}
 use Rattle.tag_decoder.proofs.CallLaws.{decode_facts, eof_facts}
 use Rattle.many_events.specs.Events.{innermost}
 use Rattle.many_events.specs.Many.{one_call}
+use Rattle.std.specs.Prelude.{Err, Ok, Result}
+use Rattle.decoder_rules.specs.declared.types.DecodeError.{DecodeError}
 
 module _ (es ps : List ℕ) (d : TagDecoder) (s : List ℕ) where
   -- no more bytes are taken than are left
@@ -52,18 +54,18 @@ module _ (es ps : List ℕ) (d : TagDecoder) (s : List ℕ) where
 
 module _ {x o : ℕ} where
   -- it was moved to
-  start_moved : (d : TagDecoder) (n : ℕ) (a : Action) → ActionApplies d n a → (move d a).answer ≡ answer.Event (event.Start x o) → (move d a).state.open_count ≤ most_open
+  start_moved : (d : TagDecoder) (n : ℕ) (a : Result Action DecodeError) → ActionApplies d n a → (move d a).answer ≡ Ok (answer.Event (event.Start x o)) → (move d a).state.open_count ≤ most_open
   unfolding move opened counted with_open with_notes
-  start_moved d n (act.Refuse e) f q = let z : ◌≡◌ {A = ℕ} 0 1 = cc in absurd_eq z
-  start_moved d n (act.NeedMore missing) f q = let z : ◌≡◌ {A = ℕ} 0 1 = cc in absurd_eq z
-  start_moved d n act.Finish f q = let z : ◌≡◌ {A = ℕ} 0 1 = cc in absurd_eq z
-  start_moved d n act.HandOut f q = let z : ◌≡◌ {A = ℕ} 0 1 = cc in absurd_eq z
-  start_moved d n (act.Close k) f q = let z : ◌≡◌ {A = ℕ} 0 1 = cc in absurd_eq z
-  start_moved d n (act.Start y size len) f q = omega (arith, starts d n y size len f)
-  start_moved d n (act.Data y v m) f q = let z : ◌≡◌ {A = ℕ} 0 1 = cc in absurd_eq z
+  start_moved d n (Err e) f q = let z : ◌≡◌ {A = ℕ} 0 1 = cc in absurd_eq z
+  start_moved d n (Ok (act.NeedMore missing)) f q = let z : ◌≡◌ {A = ℕ} 0 1 = cc in absurd_eq z
+  start_moved d n (Ok act.Finish) f q = let z : ◌≡◌ {A = ℕ} 0 1 = cc in absurd_eq z
+  start_moved d n (Ok act.HandOut) f q = let z : ◌≡◌ {A = ℕ} 0 1 = cc in absurd_eq z
+  start_moved d n (Ok (act.Close k)) f q = let z : ◌≡◌ {A = ℕ} 0 1 = cc in absurd_eq z
+  start_moved d n (Ok (act.Start y size len)) f q = omega (arith, starts d n y size len f)
+  start_moved d n (Ok (act.Data y v m)) f q = let z : ◌≡◌ {A = ℕ} 0 1 = cc in absurd_eq z
 
   -- the end of input answers none
-  end_starts_none : {t : List Entry} {d : TagDecoder} {s : List ℕ} {r : Decoded} {A : Type 0} → EndExit t d s r → r.answer ≡ answer.Event (event.Start x o) → A
+  end_starts_none : {t : List Entry} {d : TagDecoder} {s : List ℕ} {r : Decoded} {A : Type 0} → EndExit t d s r → r.answer ≡ Ok (answer.Event (event.Start x o)) → A
   unfolding move
   end_starts_none (at.bytes_left l) q = let z : ◌≡◌ {A = ℕ} 0 1 = cc in absurd_eq z
   end_starts_none (at.master_cut z l) q = let z : ◌≡◌ {A = ℕ} 0 1 = cc in absurd_eq z
@@ -72,21 +74,21 @@ module _ {x o : ℕ} where
   end_starts_none (at.closes_all n m l) q = let z : ◌≡◌ {A = ℕ} 0 1 = cc in absurd_eq z
 
   module _ (es ps : List ℕ) (d : TagDecoder) (s : List ℕ) (byte : Octets s) where
-    decode_room : (decode es ps d s).answer ≡ answer.Event (event.Start x o) → (decode es ps d s).state.open_count ≤ most_open
+    decode_room : (decode es ps d s).answer ≡ Ok (answer.Event (event.Start x o)) → (decode es ps d s).state.open_count ≤ most_open
     unfolding apply
     decode_room q = start_moved (with_note es ps d s) (length s) (decide es ps d s).action (decide_applies es ps d s byte).action q
 
-    eof_room : {r : Decoded} → EofExit es ps d s r → r.answer ≡ answer.Event (event.Start x o) → r.state.open_count ≤ most_open
+    eof_room : {r : Decoded} → EofExit es ps d s r → r.answer ≡ Ok (answer.Event (event.Start x o)) → r.state.open_count ≤ most_open
     eof_room (at.as_decoded n) q = decode_room q
     eof_room (at.at_end n e) q = end_starts_none e q
 
     -- after it there are at most 32 masters open
-    start_room : (eof : Bool) → (one_call eof es ps d s).answer ≡ answer.Event (event.Start x o) → (one_call eof es ps d s).state.open_count ≤ most_open
+    start_room : (eof : Bool) → (one_call eof es ps d s).answer ≡ Ok (answer.Event (event.Start x o)) → (one_call eof es ps d s).state.open_count ≤ most_open
     start_room true q = eof_room (eof_exits es ps d s) q
     start_room false q = decode_room q
 
     -- so the top one of the 32 places is the innermost master's
-    pub start_innermost : (eof : Bool) (r : Decoded) → r ≡ one_call eof es ps d s → r.answer ≡ answer.Event (event.Start x o)
+    pub start_innermost : (eof : Bool) (r : Decoded) → r ≡ one_call eof es ps d s → r.answer ≡ Ok (answer.Event (event.Start x o))
         → (top : ℕ) → top ≡ min (r.state.open_count - 1) (most_open - 1) → get_or r.state.«open» top no_tag ≡ innermost r.state
     start_innermost eof r is q top e =
         let few : r.state.open_count ≤ most_open = subst (λ (a : Decoded). a.state.open_count ≤ most_open) (sym is) (start_room eof (sym (ap (λ (a : Decoded). a.answer) is) ∙ q)) in

@@ -9,13 +9,13 @@ use lib.ListN.{take, replicate}
 use Rattle.table.specs.BenchTable.{bench_entries, bench_parts}
 use Rattle.decoder_rules.specs.Record.{fresh}
 use Rattle.decoder_rules.specs.declared.types.DecodeError.TheVariants.{UnexpectedEOF}
-use Rattle.decoder_rules.specs.declared.types.Optional.TheVariants.{Nothing, Number}
-use Rattle.decoder_rules.specs.declared.types.Part.TheVariants.{Bytes}
 use Rattle.decoder_rules.proofs.Computing.{rules_compute}
 use Rattle.many_events.specs.Events.{start_words, value_words, event_words}
 use Rattle.many_events.specs.Many.{many_calls, many_events}
 use Rattle.many_events.specs.declared.types.Stop.{Stop}
 use Rattle.many_events.specs.declared.types.Stop.TheVariants as stop
+use Rattle.std.specs.Prelude.{Err, None, Ok, Result, Some}
+use Rattle.decoder_rules.specs.declared.types.Refusal.{Refusal}
 
 -- a Session of unknown size and in it a Feed: Amount 120, Shift -2, Unit "ml", a Blob of one byte and the Rate 1.0
 abbrev pub night : List ℕ
@@ -48,7 +48,7 @@ last_words = 6 ∷ 0x4E01 ∷ 0 ∷ 0 ∷ 0 ∷ 1 ∷ 0 ∷ 0 ∷ []
 
 -- how many events, how many bytes, why it stops, and the list
 abbrev pub Shown : Type 0
-Shown = ℕ × ℕ × Stop × List ℕ
+Shown = ℕ × ℕ × Result Stop Refusal × List ℕ
 
 -- what a fresh decoder answers in a list of so many words, each of them 9
 abbrev pub listed : Bool → List ℕ → ℕ → Shown
@@ -64,25 +64,25 @@ and_kept events n = flat_map (λ words. words) events ++ replicate n 9
 abbrev pub examples : List (Shown × Shown)
 examples =
     -- no room: no call is made
-    (listed false night 0, (0, 0, stop.Full, []))
-    ∷ (listed true night 7, (0, 0, stop.Full, replicate 7 9))
+    (listed false night 0, (0, 0, Ok stop.Full, []))
+    ∷ (listed true night 7, (0, 0, Ok stop.Full, replicate 7 9))
     -- room for one, just and with words past it
-    ∷ (listed false night 8, (1, 3, stop.Full, and_kept (take 1 night_words) 0))
-    ∷ (listed false night 11, (1, 3, stop.Full, and_kept (take 1 night_words) 3))
+    ∷ (listed false night 8, (1, 3, Ok stop.Full, and_kept (take 1 night_words) 0))
+    ∷ (listed false night 11, (1, 3, Ok stop.Full, and_kept (take 1 night_words) 3))
     -- for all but the last, for all of them, and for more
-    ∷ (listed false night 56, (7, 24, stop.Full, and_kept (take 7 night_words) 0))
-    ∷ (listed false night 64, (8, 24, stop.Full, and_kept night_words 0))
-    ∷ (listed false night 74, (8, 24, stop.NeedMore 2, and_kept night_words 10))
-    ∷ (listed true night 72, (9, 24, stop.Full, and_kept (night_words ++ (last_words ∷ [])) 0))
-    ∷ (listed true night 80, (9, 24, stop.Finished, and_kept (night_words ++ (last_words ∷ [])) 8))
+    ∷ (listed false night 56, (7, 24, Ok stop.Full, and_kept (take 7 night_words) 0))
+    ∷ (listed false night 64, (8, 24, Ok stop.Full, and_kept night_words 0))
+    ∷ (listed false night 74, (8, 24, Ok (stop.NeedMore 2), and_kept night_words 10))
+    ∷ (listed true night 72, (9, 24, Ok stop.Full, and_kept (night_words ++ (last_words ∷ [])) 0))
+    ∷ (listed true night 80, (9, 24, Ok stop.Finished, and_kept (night_words ++ (last_words ∷ [])) 8))
     -- the input ends after the Feed's ID
-    ∷ (listed false (take 4 night) 24, (1, 3, stop.NeedMore 1, and_kept (take 1 night_words) 16))
+    ∷ (listed false (take 4 night) 24, (1, 3, Ok (stop.NeedMore 1), and_kept (take 1 night_words) 16))
     ∷ (
       listed true (take 4 night) 24,
       (
         1,
         3,
-        stop.Refused (record { error = UnexpectedEOF (record { start = 3; id = Number 0xA1; size = Nothing; part = Bytes (record { begin = 3; end = 4 }) }); place = 3 }),
+        Err (record { error = UnexpectedEOF (record { start = 3; id = Some 0xA1; size = None; part = Some (record { begin = 3; end = 4 }) }); place = 3 }),
         and_kept (take 1 night_words) 16,
       ),
     )

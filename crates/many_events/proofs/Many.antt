@@ -23,6 +23,8 @@ use Rattle.many_events.specs.Many.{InARow, then, stopped, on_from, many_calls, o
 use Rattle.many_events.specs.declared.types.Stop.{Stop}
 use Rattle.many_events.specs.declared.types.Stop.TheVariants as stop
 use Rattle.many_events.proofs.Calling.{call_within, call_takes_none, call_moves}
+use Rattle.std.specs.Prelude.{Err, Ok, Result}
+use Rattle.decoder_rules.specs.declared.types.Refusal.{Refusal}
 
 -- the words of what a call told, where that is an event: d is the record after it
 abbrev pub words_told : TagDecoder → Told → List ℕ
@@ -39,11 +41,11 @@ is_event finish = false
 is_event (refusal n p x) = false
 
 -- what the call told that stops the others; where there is no room, none was made
-abbrev pub last_told : Stop → List Told
-last_told stop.Full = []
-last_told (stop.NeedMore missing) = need_more missing ∷ []
-last_told stop.Finished = finish ∷ []
-last_told (stop.Refused r) = told_by (answer.Refused r) ∷ []
+abbrev pub last_told : Result Stop Refusal → List Told
+last_told (Ok stop.Full) = []
+last_told (Ok (stop.NeedMore missing)) = need_more missing ∷ []
+last_told (Ok stop.Finished) = finish ∷ []
+last_told (Err r) = told_by (Err r) ∷ []
 
 -- no call
 abbrev pub no_call : Call
@@ -53,7 +55,7 @@ no_call = record { told = finish; taken = 0 }
 -- are the bytes before them
 pub record ByCalls (n : ℕ) (s : List ℕ) (left : ℕ → TagDecoder) (r : InARow) (c : Calls) : Type 0 where
   pub few : length r.events ≤ n
-  pub full : r.stop ≡ stop.Full → length r.events ≡ n
+  pub full : r.stop ≡ Ok stop.Full → length r.events ≡ n
   pub events_told : (i : ℕ) → i < length r.events → is_event (get_or c.calls i no_call).told ≡ true
   pub words : (i : ℕ) → i < length r.events → get_or r.events i [] ≡ words_told (left (suc i)) (get_or c.calls i no_call).told
   pub last_told_lem : map (λ (x : Call). x.told) (drop (length r.events) c.calls) ≡ last_told r.stop
@@ -86,7 +88,7 @@ module _ (call : TagDecoder → List ℕ → Decoded) (none : TakesNone call) wh
     t = drop (call d s).taken s
 
     -- a call that stops the others
-    stops : (why : Stop) (x : Told) → (why ≡ stop.Full → ⊥) → x ∷ [] ≡ last_told why → (call d s).taken ≡ 0
+    stops : (why : Result Stop Refusal) (x : Told) → (why ≡ Ok stop.Full → ⊥) → x ∷ [] ≡ last_told why → (call d s).taken ≡ 0
         → ByCalls (suc n) s (left_by d s) (stopped why e) (last (call_of d s x) e t)
     stops why x part told k =
         record {
@@ -100,10 +102,10 @@ module _ (call : TagDecoder → List ℕ → Decoded) (none : TakesNone call) wh
         }
 
     -- a call that told an event, and those after it
-    module _ (x : Event) (q : (call d s).answer ≡ answer.Event x) (m : InARow) (c : Calls) (others : ByCalls n t (left_by e t) m c) where
+    module _ (x : Event) (q : (call d s).answer ≡ Ok (answer.Event x)) (m : InARow) (c : Calls) (others : ByCalls n t (left_by e t) m c) where
       left_then : (i : ℕ) → left_by d s (suc i) ≡ left_by e t i
       unfolding in_a_row
-      left_then i = ap (λ (a : Answer). (goes_on_with (in_a_row call i) a (call_of d s (told_by a)) e t).left) q
+      left_then i = ap (λ (a : Result Answer Refusal). (goes_on_with (in_a_row call i) a (call_of d s (told_by a)) e t).left) q
 
       event_then : ByCalls (suc n) s (left_by d s) (then (event_words e x) (call d s).taken m) (before (call_of d s (event x)) c)
       unfolding in_a_row
@@ -128,12 +130,12 @@ module _ (call : TagDecoder → List ℕ → Decoded) (none : TakesNone call) wh
           words_of (suc i) h = others.words i (omega arith) ∙ ap (λ (y : TagDecoder). words_told y (get_or c.calls i no_call).told) (sym (left_then (suc i)))
 
     -- by the answer
-    by_answer : (a : Answer) → (call d s).answer ≡ a → ByCalls n t (left_by e t) (many_calls call n e t) (in_a_row call n e t)
+    by_answer : (a : Result Answer Refusal) → (call d s).answer ≡ a → ByCalls n t (left_by e t) (many_calls call n e t) (in_a_row call n e t)
         → ByCalls (suc n) s (left_by d s) (on_from a (call d s).taken e (many_calls call n e t)) (goes_on_with (in_a_row call n) a (call_of d s (told_by a)) e t)
-    by_answer (answer.Event x) q others = event_then x q (many_calls call n e t) (in_a_row call n e t) others
-    by_answer (answer.NeedMore missing) q others = stops _ _ (λ w. let z : ◌≡◌ {A = ℕ} 0 1 = cc in omega arith) refl (none d s (ap is_no_event q))
-    by_answer answer.Finished q others = stops _ _ (λ w. let z : ◌≡◌ {A = ℕ} 0 1 = cc in omega arith) refl (none d s (ap is_no_event q))
-    by_answer (answer.Refused r) q others = stops _ _ (λ w. let z : ◌≡◌ {A = ℕ} 0 1 = cc in omega arith) refl (none d s (ap is_no_event q))
+    by_answer (Ok (answer.Event x)) q others = event_then x q (many_calls call n e t) (in_a_row call n e t) others
+    by_answer (Ok (answer.NeedMore missing)) q others = stops _ _ (λ w. let z : ◌≡◌ {A = ℕ} 0 1 = cc in omega arith) refl (none d s (ap is_no_event q))
+    by_answer (Ok answer.Finished) q others = stops _ _ (λ w. let z : ◌≡◌ {A = ℕ} 0 1 = cc in omega arith) refl (none d s (ap is_no_event q))
+    by_answer (Err r) q others = stops _ _ (λ w. let z : ◌≡◌ {A = ℕ} 0 1 = cc in omega arith) refl (none d s (ap is_no_event q))
 
   -- calls in a row hand out what the calls one by one told
   pub by_calls : (n : ℕ) (d : TagDecoder) (s : List ℕ) → ByCalls n s (left_by d s) (many_calls call n d s) (in_a_row call n d s)
@@ -161,18 +163,18 @@ module _ (eof : Bool) (es ps : List ℕ) where
     r = one_call eof es ps d s
 
     -- an answer that is no event
-    stays : is_no_event r.answer ≡ true → (why : Stop) → Moved d s (stopped why r.state)
+    stays : is_no_event r.answer ≡ true → (why : Result Stop Refusal) → Moved d s (stopped why r.state)
     stays q why = record { within = omega arith; moves = omega (arith, call_moves es ps d s eof byte, call_takes_none es ps d s eof q) }
 
     -- any answer
-    moves_on : (a : Answer) (others : InARow) → r.answer ≡ a → Moved r.state (drop r.taken s) others → Moved d s (on_from a r.taken r.state others)
-    moves_on (answer.Event x) others q m =
+    moves_on : (a : Result Answer Refusal) (others : InARow) → r.answer ≡ a → Moved r.state (drop r.taken s) others → Moved d s (on_from a r.taken r.state others)
+    moves_on (Ok (answer.Event x)) others q m =
         let k = call_within es ps d s eof byte in
         let l = length-drop r.taken s in
         record { within = omega (arith, m.within); moves = omega (arith, m.moves, call_moves es ps d s eof byte) }
-    moves_on (answer.NeedMore missing) others q m = stays (ap is_no_event q) _
-    moves_on answer.Finished others q m = stays (ap is_no_event q) _
-    moves_on (answer.Refused x) others q m = stays (ap is_no_event q) _
+    moves_on (Ok (answer.NeedMore missing)) others q m = stays (ap is_no_event q) _
+    moves_on (Ok answer.Finished) others q m = stays (ap is_no_event q) _
+    moves_on (Err x) others q m = stays (ap is_no_event q) _
 
   -- no more bytes are taken than are lent, and the position moves by those
   pub many_moves : (n : ℕ) (d : TagDecoder) (s : List ℕ) → Octets s → Moved d s (many_calls (one_call eof es ps) n d s)

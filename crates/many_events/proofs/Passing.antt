@@ -30,8 +30,6 @@ use Rattle.decoder_rules.specs.declared.types.Decision.{Decision}
 use Rattle.decoder_rules.specs.declared.types.Decoded.{Decoded}
 use Rattle.decoder_rules.specs.declared.types.Event.{Event}
 use Rattle.decoder_rules.specs.declared.types.Event.TheVariants as event
-use Rattle.decoder_rules.specs.declared.types.Note.{Note}
-use Rattle.decoder_rules.specs.declared.types.Note.TheVariants.{NoNote, Settle}
 use Rattle.decoder_rules.specs.declared.types.Settings.{Settings}
 use Rattle.decoder_rules.specs.declared.types.TagDecoder.{TagDecoder}
 use Rattle.decoder_rules.specs.declared.types.WaitingEnd.{WaitingEnd}
@@ -56,71 +54,74 @@ use Rattle.many_events.specs.declared.types.Ran.{Ran}
 use Rattle.many_events.proofs.Calling.{call_within}
 use Rattle.many_events.proofs.Turns.{event_turn}
 use Rattle.many_events.proofs.Ends.{none_full, least_same, front_same, top_full, Around}
+use Rattle.std.specs.Prelude.{Err, None, Ok, Option, Result, Some}
+use Rattle.decoder_rules.specs.declared.types.DecodeError.{DecodeError}
+use Rattle.table.specs.declared.types.Path.{Path}
 
 -- ---- a quick decision
 
 -- whether no call has to be made
-abbrev pub is_quick : Quick → Bool
-is_quick quick.Slow = false
-is_quick (quick.Data x v n) = true
-is_quick (quick.Start x size len) = true
-is_quick (quick.End k) = true
+abbrev pub is_quick : Option Quick → Bool
+is_quick None = false
+is_quick (Some (quick.Data x v n)) = true
+is_quick (Some (quick.Start x size len)) = true
+is_quick (Some (quick.End k)) = true
 
 -- the action that was decided
-abbrev pub action_of : Quick → Action
-action_of quick.Slow = act.Finish
-action_of (quick.Data x v n) = act.Data x v n
-action_of (quick.Start x size len) = act.Start x size len
-action_of (quick.End k) = act.Close k
+abbrev pub action_of : Option Quick → Result Action DecodeError
+action_of None = Ok act.Finish
+action_of (Some (quick.Data x v n)) = Ok (act.Data x v n)
+action_of (Some (quick.Start x size len)) = Ok (act.Start x size len)
+action_of (Some (quick.End k)) = Ok (act.Close k)
 
 -- all but an End take a byte
-abbrev pub TakesSome : Quick → Type 0
-TakesSome quick.Slow = Unit {0}
-TakesSome (quick.Data x v n) = 0 < n
-TakesSome (quick.Start x size len) = 0 < len
-TakesSome (quick.End k) = Unit {0}
+abbrev pub TakesSome : Option Quick → Type 0
+TakesSome None = Unit {0}
+TakesSome (Some (quick.Data x v n)) = 0 < n
+TakesSome (Some (quick.Start x size len)) = 0 < len
+TakesSome (Some (quick.End k)) = Unit {0}
 
 -- the record was found good, there is no note, and a byte is taken where one has to be
-pub record Made (good : Bool) (a : Decision) (q : Quick) : Type 0 where
+pub record Made (good : Bool) (a : Decision) (q : Option Quick) : Type 0 where
   pub found : good ≡ true
   pub decided : a ≡ plain (action_of q)
   pub some : TakesSome q
 
 -- a decision that is quick is made so
-pub made : (good : Bool) (a : Decision) (q : Quick) → quick_of good a ≡ q → is_quick q ≡ true → Made good a q
+pub made : (good : Bool) (a : Decision) (q : Option Quick) → quick_of good a ≡ q → is_quick q ≡ true → Made good a q
 unfolding quick_of
 made good a q e f = subst (Made good a) e (by good a.note a.action (ap is_quick e ∙ f))
   where
-    taken : (n : ℕ) (r : Quick) (b : Bool) → ltb 0 n ≡ b → is_quick (cond b r quick.Slow) ≡ true → (0 < n → TakesSome r) → Made true (plain (action_of r)) (cond b r quick.Slow)
+    taken : (n : ℕ) (r : Option Quick) (b : Bool) → ltb 0 n ≡ b → is_quick (cond b r None) ≡ true → (0 < n → TakesSome r) → Made true (plain (action_of r)) (cond b r None)
     taken n r true e f k = record { found = refl; decided = refl; some = k (ltb-true 0 n e) }
     taken n r false e f k = absurd (false≢true f)
 
-    by : (b : Bool) (w : Note) (c : Action) → is_quick (cond b (quick_noted w c) quick.Slow) ≡ true → Made b (record { note = w; action = c }) (cond b (quick_noted w c) quick.Slow)
+    by : (b : Bool) (w : Option Path) (c : Result Action DecodeError) → is_quick (cond b (quick_noted w c) None) ≡ true → Made b (record { note = w; action = c }) (cond b (quick_noted w c) None)
     by false w c f = absurd (false≢true f)
-    by true (Settle path) c f = absurd (false≢true f)
-    by true NoNote (act.Refuse x) f = absurd (false≢true f)
-    by true NoNote (act.NeedMore missing) f = absurd (false≢true f)
-    by true NoNote act.Finish f = absurd (false≢true f)
-    by true NoNote act.HandOut f = absurd (false≢true f)
-    by true NoNote (act.Close k) f = record { found = refl; decided = refl; some = tt }
-    by true NoNote (act.Start x size len) f = taken len (quick.Start x size len) (ltb 0 len) refl f (λ k. k)
-    by true NoNote (act.Data x v n) f = taken n (quick.Data x v n) (ltb 0 n) refl f (λ k. k)
+    by true (Some path) c f = absurd (false≢true f)
+    by true None (Err x) f = absurd (false≢true f)
+    by true None (Ok (act.NeedMore missing)) f = absurd (false≢true f)
+    by true None (Ok act.Finish) f = absurd (false≢true f)
+    by true None (Ok act.HandOut) f = absurd (false≢true f)
+    by true None (Ok (act.Close k)) f = record { found = refl; decided = refl; some = tt }
+    by true None (Ok (act.Start x size len)) f = taken len (Some (quick.Start x size len)) (ltb 0 len) refl f (λ k. k)
+    by true None (Ok (act.Data x v n)) f = taken n (Some (quick.Data x v n)) (ltb 0 n) refl f (λ k. k)
 
 -- ---- what applies
 
 -- Data is there, within reach, and the counts of the open masters fit
-pub data-fits : (d : TagDecoder) (n x : ℕ) (v : TagValue) (m : ℕ) → ActionApplies d n (act.Data x v m) → (m ≤ n) × (d.position + n ≤ farthest) × CountsFit d
+pub data-fits : (d : TagDecoder) (n x : ℕ) (v : TagValue) (m : ℕ) → ActionApplies d n (Ok (act.Data x v m)) → (m ≤ n) × (d.position + n ≤ farthest) × CountsFit d
 unfolding ActionApplies
 data-fits d n x v m f = f
 
 -- so is a Start, and there is room for it
-pub start_fits : (d : TagDecoder) (n x : ℕ) (size : EBMLSize) (m : ℕ) → ActionApplies d n (act.Start x size m)
+pub start_fits : (d : TagDecoder) (n x : ℕ) (size : EBMLSize) (m : ℕ) → ActionApplies d n (Ok (act.Start x size m))
     → (d.open_count < most_open) × (m ≤ n) × (d.position + n ≤ farthest) × CountsFit d
 unfolding ActionApplies
 start_fits d n x size m f = f
 
 -- what closes is open
-pub end_fits : (d : TagDecoder) (n k : ℕ) → ActionApplies d n (act.Close k) → (k < d.open_count) × (d.open_count ≤ most_open)
+pub end_fits : (d : TagDecoder) (n k : ℕ) → ActionApplies d n (Ok (act.Close k)) → (k < d.open_count) × (d.open_count ≤ most_open)
 unfolding ActionApplies
 end_fits d n k f = f
 
@@ -332,7 +333,7 @@ passes_turns {es} {ps} {s} {l} {k} {d} {n} {at} {r} p eof {long} {total} e t =
     (p.turns eof total (subst (λ (i : ℕ). Turning (one_call eof es ps) s (i / event_size) i total l d n at) (sym e) t))
 
 -- an event is what any of the two calls answers
-event_called : (eof : Bool) (es ps : List ℕ) (d : TagDecoder) (s : List ℕ) (e : Event) → (decode es ps d s).answer ≡ answer.Event e → decode es ps d s ≡ one_call eof es ps d s
+event_called : (eof : Bool) (es ps : List ℕ) (d : TagDecoder) (s : List ℕ) (e : Event) → (decode es ps d s).answer ≡ Ok (answer.Event e) → decode es ps d s ≡ one_call eof es ps d s
 unfolding decode_eof
 event_called true es ps d s e q = sym (ap (ended_or (table_of es ps) s (decode es ps d s)) q)
 event_called false es ps d s e q = refl
@@ -347,29 +348,29 @@ module _ {es ps s l₀ : List ℕ} {d₀ : TagDecoder} {n₀ at₀ at : ℕ} {l 
   going_good f = good_state_lem d (sym (ap (λ (y : Summary). y.is_state_good) g.seen) ∙ f)
 
   -- what was decided applies
-  pub going_applies : (a : Action) → decide es ps d left ≡ plain a → ActionApplies d (length left) a
+  pub going_applies : (a : Result Action DecodeError) → decide es ps d left ≡ plain a → ActionApplies d (length left) a
   unfolding noted
   going_applies a is = subst (λ (c : Decision). ActionApplies (noted ps d c.note) (length left) c.action) is (decide_applies es ps d left (octets_drop at s byte)).action
 
   -- what is made of a decision on what was seen, where no call has to be made
-  pub its_action : {a : Decision} → ForEveryRecordSummedUpAs k ids knowns (λ e. a ≡ decide es ps e (take (length s - at) left)) → {q r : Quick} → q ≡ quick_of k.is_state_good a → q ≡ r
+  pub its_action : {a : Decision} → ForEveryRecordSummedUpAs k ids knowns (λ e. a ≡ decide es ps e (take (length s - at) left)) → {q r : Option Quick} → q ≡ quick_of k.is_state_good a → q ≡ r
       → is_quick r ≡ true → Made k.is_state_good (decide es ps d left) r
   its_action {a} is {q} {r} e f y =
       subst (λ (v : Decision). Made k.is_state_good v r) (is d g.seen g.shown ∙ ap (decide es ps d) (rest_is at s)) (made k.is_state_good a r (sym e ∙ f) y)
 
   -- and that it applies
-  pub data_made : {x m : ℕ} {v : TagValue} → Made k.is_state_good (decide es ps d left) (quick.Data x v m) → (m ≤ length left) × (d.position + length left ≤ farthest) × CountsFit d
-  data_made {x} {m} {v} w = data-fits d (length left) x v m (going_applies (act.Data x v m) w.decided)
+  pub data_made : {x m : ℕ} {v : TagValue} → Made k.is_state_good (decide es ps d left) (Some (quick.Data x v m)) → (m ≤ length left) × (d.position + length left ≤ farthest) × CountsFit d
+  data_made {x} {m} {v} w = data-fits d (length left) x v m (going_applies (Ok (act.Data x v m)) w.decided)
 
-  pub start_made : {x m : ℕ} {size : EBMLSize} → Made k.is_state_good (decide es ps d left) (quick.Start x size m)
+  pub start_made : {x m : ℕ} {size : EBMLSize} → Made k.is_state_good (decide es ps d left) (Some (quick.Start x size m))
       → (d.open_count < most_open) × (m ≤ length left) × (d.position + length left ≤ farthest) × CountsFit d
-  start_made {x} {m} {size} w = start_fits d (length left) x size m (going_applies (act.Start x size m) w.decided)
+  start_made {x} {m} {size} w = start_fits d (length left) x size m (going_applies (Ok (act.Start x size m)) w.decided)
 
-  pub end_made : {c : ℕ} → Made k.is_state_good (decide es ps d left) (quick.End c) → (c < d.open_count) × (d.open_count ≤ most_open)
-  end_made {c} w = end_fits d (length left) c (going_applies (act.Close c) w.decided)
+  pub end_made : {c : ℕ} → Made k.is_state_good (decide es ps d left) (Some (quick.End c)) → (c < d.open_count) × (d.open_count ≤ most_open)
+  end_made {c} w = end_fits d (length left) c (going_applies (Ok (act.Close c)) w.decided)
 
   -- an event more is passed over
-  passes_event : n < length l₀ / event_size → (r : Decoded) → r ≡ decode es ps d left → (e : Event) → r.answer ≡ answer.Event e → {l' : List ℕ} → l' ≡ sets l (event_size * n) (event_words r.state e)
+  passes_event : n < length l₀ / event_size → (r : Decoded) → r ≡ decode es ps d left → (e : Event) → r.answer ≡ Ok (answer.Event e) → {l' : List ℕ} → l' ≡ sets l (event_size * n) (event_words r.state e)
       → PassesOver es ps s l₀ l' d₀ n₀ at₀ (record { count = n + 1; taken = at + r.taken; state = r.state })
   passes_event h r is e q put =
       let answers = sym (ap (λ (x : Decoded). x.answer) is) ∙ q in
@@ -384,12 +385,12 @@ module _ {es ps s l₀ : List ℕ} {d₀ : TagDecoder} {n₀ at₀ at : ℕ} {l 
   put_long words put = ap length put ∙ length-sets l (event_size * n) words ∙ g.as_long
 
   -- ---- an End
-  module _ (h : n < length l₀ / event_size) (c : ℕ) (is : decide es ps d left ≡ plain (act.Close c)) (top : ℕ) (place : top ≡ min (d.open_count - 1) (most_open - 1))
+  module _ (h : n < length l₀ / event_size) (c : ℕ) (is : decide es ps d left ≡ plain (Ok (act.Close c))) (top : ℕ) (place : top ≡ min (d.open_count - 1) (most_open - 1))
       (z : WaitingEnd) (its : z ≡ end_for (get_or d.«open» top no_tag)) {l' : List ℕ} (put : l' ≡ sets l (event_size * n) (end_words z)) where
-    end_decoded : gives (answer.Event (event.End z)) 0 (closed_to d c) ≡ decode es ps d left
+    end_decoded : gives (Ok (answer.Event (event.End z))) 0 (closed_to d c) ≡ decode es ps d left
     unfolding apply noted move
     end_decoded =
-        let w = end_fits d (length left) c (going_applies (act.Close c) is) in
+        let w = end_fits d (length left) c (going_applies (Ok (act.Close c)) is) in
         let last : top ≡ d.open_count - 1 = omega arith in
         rw (is, its, last, ends_head d c w.0 (omega (arith, g.arrays.masters)))
 
@@ -409,7 +410,7 @@ module _ {es ps s l₀ : List ℕ} {d₀ : TagDecoder} {n₀ at₀ at : ℕ} {l 
         → {k' : Summary} → k' ≡ seen_as k d.position c c o → Going es ps s l₀ d₀ n₀ at₀ at l' (n + 1) d' ids knowns k'
     unfolding closed_to with_open with_waiting
     end_goes_within e one none f r h now =
-        let few = (end_fits d (length left) c (going_applies (act.Close c) is)).1 in
+        let few = (end_fits d (length left) c (going_applies (Ok (act.Close c)) is)).1 in
         rw e
         (record {
           within = g.within;
@@ -427,8 +428,8 @@ module _ {es ps s l₀ : List ℕ} {d₀ : TagDecoder} {n₀ at₀ at : ℕ} {l 
     to = d.position + m
 
     -- ---- Data
-    module _ (v : TagValue) (is : decide es ps d left ≡ plain (act.Data x v m)) {l' : List ℕ} (put : l' ≡ sets l (event_size * n) (value_words x d.position v)) where
-      data-decoded : gives (answer.Event (event.Data x d.position v)) m (counted (at_position d to)) ≡ decode es ps d left
+    module _ (v : TagValue) (is : decide es ps d left ≡ plain (Ok (act.Data x v m))) {l' : List ℕ} (put : l' ≡ sets l (event_size * n) (value_words x d.position v)) where
+      data-decoded : gives (Ok (answer.Event (event.Data x d.position v))) m (counted (at_position d to)) ≡ decode es ps d left
       unfolding apply noted move
       data-decoded = rw is
 
@@ -439,7 +440,7 @@ module _ {es ps s l₀ : List ℕ} {d₀ : TagDecoder} {n₀ at₀ at : ℕ} {l 
       data-goes-seen : {d' : TagDecoder} → d' ≡ counted (at_position d to) → {k' : Summary} → k' ≡ summary (counted (at_position d to))
           → Going es ps s l₀ d₀ n₀ at₀ (at + m) l' (n + 1) d' ids knowns k'
       data-goes-seen e now =
-          let w = data-fits d (length left) x v m (going_applies (act.Data x v m) is) in
+          let w = data-fits d (length left) x v m (going_applies (Ok (act.Data x v m)) is) in
           let few = w.2.0 in
           let b = length-drop at s in
           rw e
@@ -457,7 +458,7 @@ module _ {es ps s l₀ : List ℕ} {d₀ : TagDecoder} {n₀ at₀ at : ℕ} {l 
       pub data-goes-on : {d' : TagDecoder} → d' ≡ counted (at_position d to) → to < k.view.least_end → {k' : Summary}
           → k' ≡ seen_as k to d.open_count d.open_count k.view.least_end → Going es ps s l₀ d₀ n₀ at₀ (at + m) l' (n + 1) d' ids knowns k'
       data-goes-on e before now =
-          let w = data-fits d (length left) x v m (going_applies (act.Data x v m) is) in
+          let w = data-fits d (length left) x v m (going_applies (Ok (act.Data x v m)) is) in
           data-goes-seen e (now ∙ moved_seen d g.arrays w.2.0 to (going_good f) (omega arith) (omega arith) g.seen before)
 
       -- at the end of the top master alone
@@ -465,37 +466,37 @@ module _ {es ps s l₀ : List ℕ} {d₀ : TagDecoder} {n₀ at₀ at : ℕ} {l 
           → (top : ℕ) → top ≡ min (d.open_count - 1) (most_open - 1) → {k' : Summary} → k' ≡ seen_as k to d.open_count top k.view.least_end
           → Going es ps s l₀ d₀ n₀ at₀ (at + m) l' (n + 1) d' ids knowns k'
       data-goes-full e r before end top place now =
-          let w = data-fits d (length left) x v m (going_applies (act.Data x v m) is) in
+          let w = data-fits d (length left) x v m (going_applies (Ok (act.Data x v m)) is) in
           data-goes-seen e (now ∙ moved_full d g.arrays w.2.0 to (going_good f) (omega arith) (omega arith) g.seen r before end top place)
 
       -- at the end of a master it is seen anew
       pub data-goes-anew : {d' : TagDecoder} → d' ≡ counted (at_position d to) → {ids' : List ℕ} {knowns' : List Bool} {k' : Summary} → Anew ids ids' knowns knowns' d' k'
           → Going es ps s l₀ d₀ n₀ at₀ (at + m) l' (n + 1) d' ids' knowns' k'
       data-goes-anew e look =
-          let w = data-fits d (length left) x v m (going_applies (act.Data x v m) is) in
+          let w = data-fits d (length left) x v m (going_applies (Ok (act.Data x v m)) is) in
           let few = w.2.0 in
           let b = length-drop at s in
           goes_anew look (omega (arith, g.within)) (put_long (value_words x d.position v) put) (rw e (moved_arrays d g.arrays few to))
           (rw e (moved_ends d g.arrays few to (going_good f) (omega arith) (omega arith))) (data-passes e)
 
     -- ---- a Start
-    module _ (size : EBMLSize) (is : decide es ps d left ≡ plain (act.Start x size m)) (c : OpenTag) (master : c ≡ master_at x size d.position m) {l' : List ℕ}
+    module _ (size : EBMLSize) (is : decide es ps d left ≡ plain (Ok (act.Start x size m))) (c : OpenTag) (master : c ≡ master_at x size d.position m) {l' : List ℕ}
         (put : l' ≡ sets l (event_size * n) (start_words x d.position c)) where
-      start_decoded : gives (answer.Event (event.Start x d.position)) m (opened (counted (at_position d to)) c) ≡ decode es ps d left
+      start_decoded : gives (Ok (answer.Event (event.Start x d.position))) m (opened (counted (at_position d to)) c) ≡ decode es ps d left
       unfolding apply noted move
       start_decoded = rw (is, master)
 
       start_passes : PassesOver es ps s l₀ l' d₀ n₀ at₀ (record { count = n + 1; taken = at + m; state = opened (counted (at_position d to)) c })
       unfolding event_words
       start_passes =
-          let w = start_fits d (length left) x size m (going_applies (act.Start x size m) is) in
+          let w = start_fits d (length left) x size m (going_applies (Ok (act.Start x size m)) is) in
           passes_event h _ start_decoded (event.Start x d.position) refl
           (put ∙ ap (λ (y : OpenTag). sets l (event_size * n) (start_words x d.position y)) (sym (opened-innermost d g.arrays w.3.0 to c w.0)))
 
       pub start_goes_on : {d' : TagDecoder} → d' ≡ opened (counted (at_position d to)) c → {ids' : List ℕ} {knowns' : List Bool} {k' : Summary} → Anew ids ids' knowns knowns' d' k'
           → Going es ps s l₀ d₀ n₀ at₀ (at + m) l' (n + 1) d' ids' knowns' k'
       start_goes_on e look =
-          let w = start_fits d (length left) x size m (going_applies (act.Start x size m) is) in
+          let w = start_fits d (length left) x size m (going_applies (Ok (act.Start x size m)) is) in
           let few = w.3.0 in
           let b = length-drop at s in
           goes_anew look (omega (arith, g.within)) (put_long (start_words x d.position c) put) (rw e (opened_arrays _ (moved_arrays d g.arrays few to) c))

@@ -23,6 +23,8 @@ use Rattle.many_events.specs.Turns.{joined, ended, Turning}
 use Rattle.many_events.specs.declared.types.Ran.{Ran}
 use Rattle.many_events.specs.declared.types.Stop.{Stop}
 use Rattle.many_events.specs.declared.types.Stop.TheVariants as stop
+use Rattle.std.specs.Prelude.{Err, Ok, Result}
+use Rattle.decoder_rules.specs.declared.types.Refusal.{Refusal}
 
 -- ---- an event is 8 words
 
@@ -48,7 +50,7 @@ pub joined_none : (l : List ℕ) (r : InARow) → joined 0 0 l r ≡ (ran_of r, 
 joined_none l r = rw (zero-add (length r.events), zero-add r.taken)
 
 -- none after them
-pub joined_stop : (n at : ℕ) (l : List ℕ) (why : Stop) (d : TagDecoder) → joined n at l (stopped why d) ≡ (ended n at why d, l)
+pub joined_stop : (n at : ℕ) (l : List ℕ) (why : Result Stop Refusal) (d : TagDecoder) → joined n at l (stopped why d) ≡ (ended n at why d, l)
 unfolding flat_map
 joined_stop n at l why d = rw (add-zero n, add-zero at, take-append-drop (event_size * n) l)
 
@@ -82,7 +84,7 @@ joined_then n at l words k others w h =
 
 module _ (call : TagDecoder → List ℕ → Decoded) (k : ℕ) (d : TagDecoder) (s : List ℕ) (r : Decoded) (is : r ≡ call d s) where
   -- an event, and then the others
-  pub many_then : (e : Event) → r.answer ≡ answer.Event e
+  pub many_then : (e : Event) → r.answer ≡ Ok (answer.Event e)
       → many_calls call (suc k) d s ≡ then (event_words r.state e) r.taken (many_calls call k r.state (drop r.taken s))
   unfolding many_calls
   many_then e q = rw (← is, q)
@@ -92,11 +94,11 @@ module _ (call : TagDecoder → List ℕ → Decoded) (k : ℕ) (d : TagDecoder)
   unfolding many_calls stop_of
   many_stop q = rw (← is) (by r.answer q)
     where
-      by : (a : Answer) → is_no_event a ≡ true → on_from a r.taken r.state (many_calls call k r.state (drop r.taken s)) ≡ stopped (stop_of a) r.state
-      by (answer.Event e) f = absurd (false≢true f)
-      by (answer.NeedMore missing) f = refl
-      by answer.Finished f = refl
-      by (answer.Refused x) f = refl
+      by : (a : Result Answer Refusal) → is_no_event a ≡ true → on_from a r.taken r.state (many_calls call k r.state (drop r.taken s)) ≡ stopped (stop_of a) r.state
+      by (Ok (answer.Event e)) f = absurd (false≢true f)
+      by (Ok (answer.NeedMore missing)) f = refl
+      by (Ok answer.Finished) f = refl
+      by (Err x) f = refl
 
 -- ---- the turns of a loop
 
@@ -116,11 +118,11 @@ first_turn eof es ps d s l =
 module _ {call : TagDecoder → List ℕ → Decoded} {s : List ℕ} {room long : ℕ} {total : Ran × List ℕ} {l : List ℕ} {d : TagDecoder} {n at : ℕ}
     (g : Turning call s room long total l d n at) where
   -- no room is left
-  pub full_turn : room ≤ n → (ended n at stop.Full d, l) ≡ total
+  pub full_turn : room ≤ n → (ended n at (Ok stop.Full) d, l) ≡ total
   unfolding many_calls
   full_turn h =
       let z : room - n ≡ 0 = omega arith in
-      sym (joined_stop n at l stop.Full d) ∙ (rw z at g.rest)
+      sym (joined_stop n at l (Ok stop.Full) d) ∙ (rw z at g.rest)
 
   module _ (h : n < room) (r : Decoded) (is : r ≡ call d (drop at s)) where
     -- there is a turn
@@ -132,7 +134,7 @@ module _ {call : TagDecoder → List ℕ → Decoded} {s : List ℕ} {room long 
     stop_turn q = sym (ap (joined n at l) (many_stop call (room - (n + 1)) d (drop at s) r is q) ∙ joined_stop n at l (stop_of r.answer) r.state) ∙ turn
 
     -- an event
-    pub event_turn : (e : Event) → r.answer ≡ answer.Event e → r.taken ≤ length (drop at s) → {l' : List ℕ} → l' ≡ sets l (event_size * n) (event_words r.state e)
+    pub event_turn : (e : Event) → r.answer ≡ Ok (answer.Event e) → r.taken ≤ length (drop at s) → {l' : List ℕ} → l' ≡ sets l (event_size * n) (event_words r.state e)
         → Turning call s room long total l' r.state (n + 1) (at + r.taken)
     event_turn e q t {l' = l'} put =
         let w = g.within in

@@ -1,6 +1,6 @@
 -- Calls in a row, each on what the one before left of record and bytes, until an answer is no event or there is no room
 -- for another.
-use Rattle.std.specs.Prelude.{ℕ, zero, suc, ◌+◌, ◌*◌, ◌/◌, Bool, cond, length, drop}
+use Rattle.std.specs.Prelude.{ℕ, zero, suc, ◌+◌, ◌*◌, ◌/◌, Bool, cond, length, drop, Err, Ok, Result}
 use mathlib.Core.List.{List, [], ◌∷◌, ◌++◌, flat_map}
 use Rattle.decoder_rules.specs.EndOfInput.{decode_eof}
 use Rattle.decoder_rules.specs.Moving.{decode}
@@ -12,16 +12,17 @@ use Rattle.many_events.specs.Events.{event_size, event_words}
 use Rattle.many_events.specs.declared.types.Ran.{Ran}
 use Rattle.many_events.specs.declared.types.Stop.{Stop}
 use Rattle.many_events.specs.declared.types.Stop.TheVariants as stop
+use Rattle.decoder_rules.specs.declared.types.Refusal.{Refusal}
 
 -- the words of each event in turn, how many bytes were taken, why the calls stop, and the record after them
 pub record InARow : Type 0 where
   pub events : List (List ℕ)
   pub taken : ℕ
-  pub stop : Stop
+  pub stop : Result Stop Refusal
   pub state : TagDecoder
 
 -- no call, or no more
-abbrev pub stopped : Stop → TagDecoder → InARow
+abbrev pub stopped : Result Stop Refusal → TagDecoder → InARow
 stopped why d = record { events = []; taken = 0; stop = why; state = d }
 
 -- an event with n bytes, and then the others
@@ -29,15 +30,15 @@ abbrev pub then : List ℕ → ℕ → InARow → InARow
 then words n others = record { events = words ∷ others.events; taken = n + others.taken; stop = others.stop; state = others.state }
 
 -- by the answer of a call: after an event the others follow, any other answer is the last; it takes no byte
-abbrev pub on_from : Answer → ℕ → TagDecoder → InARow → InARow
-on_from (answer.Event e) n d others = then (event_words d e) n others
-on_from (answer.NeedMore missing) n d others = stopped (stop.NeedMore missing) d
-on_from answer.Finished n d others = stopped stop.Finished d
-on_from (answer.Refused r) n d others = stopped (stop.Refused r) d
+abbrev pub on_from : Result Answer Refusal → ℕ → TagDecoder → InARow → InARow
+on_from (Ok (answer.Event e)) n d others = then (event_words d e) n others
+on_from (Ok (answer.NeedMore missing)) n d others = stopped (Ok (stop.NeedMore missing)) d
+on_from (Ok answer.Finished) n d others = stopped (Ok stop.Finished) d
+on_from (Err r) n d others = stopped (Err r) d
 
 -- calls in a row on the record d with the bytes s, where there is room for n events
 unfoldable pub many_calls : (TagDecoder → List ℕ → Decoded) → ℕ → TagDecoder → List ℕ → InARow
-many_calls call zero d s = stopped stop.Full d
+many_calls call zero d s = stopped (Ok stop.Full) d
 many_calls call (suc n) d s =
     let r = call d s in
     on_from r.answer r.taken r.state (many_calls call n r.state (drop r.taken s))
@@ -63,8 +64,8 @@ many_events eof es ps d s l =
 -- ---- only the contract of a helper cites this
 
 -- why calls in a row stop at an answer; after an event, where there is no room for another
-unfoldable pub stop_of : Answer → Stop
-stop_of (answer.Event e) = stop.Full
-stop_of (answer.NeedMore missing) = stop.NeedMore missing
-stop_of answer.Finished = stop.Finished
-stop_of (answer.Refused r) = stop.Refused r
+unfoldable pub stop_of : Result Answer Refusal → Result Stop Refusal
+stop_of (Ok (answer.Event e)) = Ok stop.Full
+stop_of (Ok (answer.NeedMore missing)) = Ok (stop.NeedMore missing)
+stop_of (Ok answer.Finished) = Ok stop.Finished
+stop_of (Err r) = Err r

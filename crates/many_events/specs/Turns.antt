@@ -1,13 +1,11 @@
 -- What only contracts of helpers cite: calls in a row that are handed out up to some turn, and the events that are made
 -- without a call.
-use Rattle.std.specs.Prelude.{ℕ, ◌+◌, ◌*◌, ◌-◌, ◌/◌, ◌≤◌, Bool, true, cond, ◌≡◌, ltb, length, take, drop}
+use Rattle.std.specs.Prelude.{ℕ, ◌+◌, ◌*◌, ◌-◌, ◌/◌, ◌≤◌, Bool, true, cond, ◌≡◌, ltb, length, take, drop, Err, None, Ok, Option, Result, Some}
 use mathlib.Core.List.{List, ◌++◌, flat_map}
 use Rattle.decoder_rules.specs.declared.types.Action.{Action}
 use Rattle.decoder_rules.specs.declared.types.Action.TheVariants as act
 use Rattle.decoder_rules.specs.declared.types.Decision.{Decision}
 use Rattle.decoder_rules.specs.declared.types.Decoded.{Decoded}
-use Rattle.decoder_rules.specs.declared.types.Note.{Note}
-use Rattle.decoder_rules.specs.declared.types.Note.TheVariants.{NoNote, Settle}
 use Rattle.decoder_rules.specs.declared.types.TagDecoder.{TagDecoder}
 use Rattle.decoder_look.specs.declared.summary.Summary.{Summary}
 use Rattle.many_events.specs.Events.{event_size}
@@ -17,6 +15,9 @@ use Rattle.many_events.specs.declared.quick.Quick.{Quick}
 use Rattle.many_events.specs.declared.quick.Quick.TheVariants as quick
 use Rattle.many_events.specs.declared.types.Ran.{Ran}
 use Rattle.many_events.specs.declared.types.Stop.{Stop}
+use Rattle.decoder_rules.specs.declared.types.DecodeError.{DecodeError}
+use Rattle.table.specs.declared.types.Path.{Path}
+use Rattle.decoder_rules.specs.declared.types.Refusal.{Refusal}
 
 -- ---- turns
 
@@ -28,7 +29,7 @@ joined n at l r = (
 )
 
 -- the answer of calls that stop here
-abbrev pub ended : ℕ → ℕ → Stop → TagDecoder → Ran
+abbrev pub ended : ℕ → ℕ → Result Stop Refusal → TagDecoder → Ran
 ended n at why d = record { count = n; taken = at; stop = why; state = d }
 
 -- n events were handed out and the bytes at taken, d is the record after them and l the list; total is what the whole
@@ -49,23 +50,23 @@ pub record PassesOver (es ps s l k : List ℕ) (d : TagDecoder) (n at : ℕ) (r 
 -- ---- events that are made without a call
 
 -- by an action, where there is no note
-abbrev pub quick_action : Action → Quick
-quick_action (act.Refuse e) = quick.Slow
-quick_action (act.NeedMore missing) = quick.Slow
-quick_action act.Finish = quick.Slow
-quick_action act.HandOut = quick.Slow
-quick_action (act.Close k) = quick.End k
-quick_action (act.Start x size len) = cond (ltb 0 len) (quick.Start x size len) quick.Slow
-quick_action (act.Data x v n) = cond (ltb 0 n) (quick.Data x v n) quick.Slow
+abbrev pub quick_action : Result Action DecodeError → Option Quick
+quick_action (Err e) = None
+quick_action (Ok (act.NeedMore missing)) = None
+quick_action (Ok act.Finish) = None
+quick_action (Ok act.HandOut) = None
+quick_action (Ok (act.Close k)) = Some (quick.End k)
+quick_action (Ok (act.Start x size len)) = cond (ltb 0 len) (Some (quick.Start x size len)) None
+quick_action (Ok (act.Data x v n)) = cond (ltb 0 n) (Some (quick.Data x v n)) None
 
 -- by a note
-abbrev pub quick_noted : Note → Action → Quick
-quick_noted NoNote a = quick_action a
-quick_noted (Settle path) a = quick.Slow
+abbrev pub quick_noted : Option Path → Result Action DecodeError → Option Quick
+quick_noted None a = quick_action a
+quick_noted (Some path) a = None
 
 -- by a decision on a record that was found good or not
-unfoldable pub quick_of : Bool → Decision → Quick
-quick_of good a = cond good (quick_noted a.note a.action) quick.Slow
+unfoldable pub quick_of : Bool → Decision → Option Quick
+quick_of good a = cond good (quick_noted a.note a.action) None
 
 -- what was seen of a good record, where it is still good, at this position, with so many masters, the outermost of
 -- them that is full, and the least of their ends

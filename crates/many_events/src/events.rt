@@ -1,4 +1,4 @@
-// An event as 8 words, and those words at a place of the lent list.
+//! An event as 8 words, and those words at a place of the lent list.
 
 ghost use Rattle.std.specs.Prelude.{[], ◌∷◌, ◌≡◌, ℕ, ◌+◌, ◌≤◌, length};
 ghost use Rattle.std.proofs.lemmas.List.Edits.{sets};
@@ -6,12 +6,13 @@ ghost use Rattle.tools.specs.Twos.{bits_of};
 ghost use Rattle.decoder_rules.specs.declared.types.TagDecoder.{TagDecoder};
 ghost use Rattle.many_events.specs.Events.{event_size, is_innermost, start_words, value_words, end_words, event_words, in_order};
 
+use crate::types::EVENT_WORDS;
 use decoder_rules::types::{Event, WaitingEnd};
 use spec_util::types::OpenTag;
 use tag_parse::types::TagValue;
 
-// The 8 words of an event.
-#[derive(Clone, Copy)]
+/// The 8 words of an event.
+#[derive(Clone, Copy, Debug, PartialEq, Eq)]
 pub struct EventWords {
     pub kind: u64,
     pub id: u64,
@@ -50,7 +51,7 @@ fn front_words(kind: u64, id: u64, offset: u64, value: u64, end: u64) -> EventWo
     }
 }
 
-// A Start with the size of its master.
+/// A Start with the size of its master.
 #[tactic(auto, unfolding(crate::specs::Events::start_words))]
 pub fn start_words(id: u64, offset: u64, m: OpenTag) -> EventWords
     ensures { in_order result ≡ start_words id offset m }
@@ -70,7 +71,7 @@ pub fn start_words(id: u64, offset: u64, m: OpenTag) -> EventWords
     front_words(0, id, offset, 0, 0)
 }
 
-// An End with the count of its children.
+/// An End with the count of its children.
 pub fn end_words(e: WaitingEnd) -> EventWords
     ensures { in_order result ≡ end_words e }
 {
@@ -86,7 +87,7 @@ pub fn end_words(e: WaitingEnd) -> EventWords
     }
 }
 
-// A value.
+/// A value.
 #[tactic(auto, unfolding(crate::specs::Events::value_words))]
 pub fn value_words(id: u64, offset: u64, value: TagValue) -> EventWords
     ensures { in_order result ≡ value_words id offset value }
@@ -113,22 +114,17 @@ fn event_words(m: OpenTag, e: Event) -> EventWords
     }
 }
 
-// These words in a row, from this place on.
+/// These words in a row, from this place on.
 pub fn put(events: &mut [u64], at: usize, w: EventWords)
     requires { at + event_size ≤ length events.old }
     ensures { events.new ≡ sets events.old at (in_order w) }
 {
-    events[at] = w.kind;
-    events[at + 1] = w.id;
-    events[at + 2] = w.offset;
-    events[at + 3] = w.value;
-    events[at + 4] = w.end;
-    events[at + 5] = w.count;
-    events[at + 6] = w.size;
-    events[at + 7] = w.known;
+    events[at..at + EVENT_WORDS].copy_from_slice(&[
+        w.kind, w.id, w.offset, w.value, w.end, w.count, w.size, w.known,
+    ]);
 }
 
-// The words of an event, from this place on; m is the innermost open master after a Start.
+/// The words of an event, from this place on; m is the innermost open master after a Start.
 pub fn put_event(events: &mut [u64], at: usize, m: OpenTag, e: Event)
     requires { at + event_size ≤ length events.old }
     ensures { (d : TagDecoder) → is_innermost d e m → events.new ≡ sets events.old at (event_words d e) }

@@ -1,4 +1,4 @@
-// Events that are made without a call, on what was seen of the record, which stays where it is.
+//! Events that are made without a call, on what was seen of the record, which stays where it is.
 
 ghost use Rattle.std.specs.Prelude.{◌&&◌, ◌≡◌, ◌≤◌, leb, length};
 ghost use Rattle.table.specs.Shape.{good_shape};
@@ -10,15 +10,14 @@ use decoder_decide::decide::decide_shaped;
 use decoder_look::summary::{HeaderView, Summary, summarize};
 use decoder_move::answers::top_place;
 use decoder_move::moves::{closed_to, end_for, master_at, with_child};
-use decoder_rules::types::{Action, Decision, Note, TagDecoder};
+use decoder_rules::types::{Action, Decision, DecodeError, TagDecoder};
 use spec_util::types::{MOST_OPEN, no_tag};
 use table::shape::good_shape;
 use tag_parse::types::{EBMLSize, TagValue};
 
-// An event that is made without a call, or that a call has to be made.
+/// An event that is made without a call.
 #[derive(Clone, Copy)]
 pub enum Quick {
-    Slow,
     Data {
         id: u64,
         value: TagValue,
@@ -33,7 +32,7 @@ pub enum Quick {
     End(usize),
 }
 
-// How many events and bytes there are then, and the record.
+/// How many events and bytes there are then, and the record.
 #[derive(Clone, Copy)]
 pub struct Passed {
     pub count: usize,
@@ -42,44 +41,44 @@ pub struct Passed {
 }
 
 // What is made of an action with no note: Data or a Start, which takes a byte at least, or an End.
-fn quick_action(action: Action) -> Quick
+fn quick_action(action: Result<Action, DecodeError>) -> Option<Quick>
     ensures { result ≡ quick_action action }
 {
     match action {
-        Action::Refuse(_) => Quick::Slow,
-        Action::NeedMore { .. } => Quick::Slow,
-        Action::Finish => Quick::Slow,
-        Action::HandOut => Quick::Slow,
-        Action::Close(below) => Quick::End(below),
-        Action::Start { id, size, len } => {
+        Err(_) => None,
+        Ok(Action::NeedMore { .. }) => None,
+        Ok(Action::Finish) => None,
+        Ok(Action::HandOut) => None,
+        Ok(Action::Close(below)) => Some(Quick::End(below)),
+        Ok(Action::Start { id, size, len }) => {
             if 0 < len {
-                return Quick::Start { id, size, len };
+                Some(Quick::Start { id, size, len })
+            } else {
+                None
             }
-            Quick::Slow
         }
-        Action::Data { id, value, taken } => {
+        Ok(Action::Data { id, value, taken }) => {
             if 0 < taken {
-                return Quick::Data { id, value, taken };
+                Some(Quick::Data { id, value, taken })
+            } else {
+                None
             }
-            Quick::Slow
         }
     }
 }
 
 // What is made of a decision on a record that was found good or not.
 #[tactic(auto, unfolding(crate::specs::Turns::quick_of))]
-fn quick_of(good: bool, decision: Decision) -> Quick
+fn quick_of(good: bool, decision: Decision) -> Option<Quick>
     ensures { result ≡ quick_of good decision }
 {
-    let note = decision.note;
-    let action = decision.action;
-    if good {
-        match note {
-            Note::NoNote => quick_action(action),
-            Note::Settle(_) => Quick::Slow,
-        }
-    } else {
-        Quick::Slow
+    let Decision { note, action } = decision;
+    if !good {
+        return None;
+    }
+    match note {
+        None => quick_action(action),
+        Some(_) => None,
     }
 }
 
@@ -121,10 +120,7 @@ fn passed_to(count: usize, taken: usize, state: TagDecoder) -> Passed
 fn may_begin(entries: &[u64], parts: &[u64], waiting_count: usize) -> bool
     ensures { result ≡ (leb waiting_count 0 && good_shape entries.now parts.now) }
 {
-    if 0 < waiting_count {
-        return false;
-    }
-    good_shape(entries, parts)
+    waiting_count == 0 && good_shape(entries, parts)
 }
 
 // Whether an End empties one place and no more: the record was found clean, so that every place past its masters and
@@ -132,21 +128,15 @@ fn may_begin(entries: &[u64], parts: &[u64], waiting_count: usize) -> bool
 fn pops_one(clean: bool, below: usize, top: usize) -> bool
     ensures { result ≡ (clean && leb top below) }
 {
-    if !clean {
-        return false;
-    }
-    if below < top {
-        return false;
-    }
-    true
+    clean && top <= below
 }
 
-// The events from the n-th on that are made without a call, at bytes having been taken before them: up to one that
-// needs a call, to an End after which others wait, or to the last that there is room for. The first End empties every
-// place past the masters, so that after it an End of one master empties one. `around` is the least end of the masters
-// around the top one, or 0 where it was not seen: before it the top master alone ends, and no other is looked at. What
-// an event does to the record stands here and not in functions of its own: a record cannot be lent by `&mut`, and one
-// that goes through a call is copied.
+/// The events from the n-th on that are made without a call, at bytes having been taken before them: up to one that
+/// needs a call, to an End after which others wait, or to the last that there is room for. The first End empties every
+/// place past the masters, so that after it an End of one master empties one. `around` is the least end of the masters
+/// around the top one, or 0 where it was not seen: before it the top master alone ends, and no other is looked at. What
+/// an event does to the record stands here and not in functions of its own: a record cannot be lent by `&mut`, and one
+/// that goes through a call is copied.
 pub fn pass_over(
     entries: &[u64],
     parts: &[u64],
@@ -168,6 +158,7 @@ pub fn pass_over(
     let mut k = summarize(d, true, &mut ids, &mut knowns);
     let mut clean = false;
     let mut around: u64 = 0;
+    // No `for`: a turn ends the loop, or makes an event of its own kind, at the speed that many events a call are for.
     while n < room {
         let position = d.position;
         let count = d.open_count;
@@ -175,8 +166,8 @@ pub fn pass_over(
         let decision = decide_shaped(entries, parts, k, &ids, &knowns, &input[at..]);
         let quick = quick_of(k.is_state_good, decision);
         match quick {
-            Quick::Slow => return passed_to(n, at, d),
-            Quick::Data { id, value, taken } => {
+            None => return passed_to(n, at, d),
+            Some(Quick::Data { id, value, taken }) => {
                 put(events, EVENT_WORDS * n, value_words(id, position, value));
                 d.open[top] = with_child(d.open[top], count);
                 d.position = position + taken as u64;
@@ -192,7 +183,7 @@ pub fn pass_over(
                     k = seen_as(k, d.position, count, count, k.view.least_end);
                 }
             }
-            Quick::Start { id, size, len } => {
+            Some(Quick::Start { id, size, len }) => {
                 let m = master_at(id, size, position, len);
                 put(events, EVENT_WORDS * n, start_words(id, position, m));
                 d.open[top] = with_child(d.open[top], count);
@@ -204,7 +195,7 @@ pub fn pass_over(
                 around = k.view.least_end;
                 k = summarize(d, true, &mut ids, &mut knowns);
             }
-            Quick::End(below) => {
+            Some(Quick::End(below)) => {
                 put(events, EVENT_WORDS * n, end_words(end_for(d.open[top])));
                 if pops_one(clean, below, top) {
                     let empty = no_tag();

@@ -1,4 +1,4 @@
--- Document 01, "Refusal numbers", in a few words each; 80 and 81: document 02, CR 11.
+-- What the number of each refusal means, in a few words; 80 and 81 come of the strict reading alone.
 use Rattle.std.specs.Prelude.{ℕ, cond, List, eqb, ltb}
 use Rattle.texts.specs.Ascii.{ascii}
 

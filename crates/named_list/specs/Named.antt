@@ -1,6 +1,6 @@
 -- The list for people: what is printed for an answer, with the record that it left, what was seen before it and the
--- bytes taken so far. The list of document 01 stays as it is: event_list/specs/Line.antt.
-use Rattle.std.specs.Prelude.{ℕ, ◌+◌, ◌-◌, ◌*◌, ◌^◌, min, Bool, cond, List, [], ◌∷◌, ◌++◌, eqb, ltb, length, take, drop}
+-- bytes taken so far. The plain list is another: event_list/specs/Line.antt.
+use Rattle.std.specs.Prelude.{ℕ, ◌+◌, ◌-◌, ◌*◌, ◌^◌, min, Bool, cond, List, [], ◌∷◌, ◌++◌, eqb, ltb, length, take, drop, Err, None, Ok, Option, Result, Some}
 use Rattle.tag_parse.specs.declared.types.Range.{Range}
 use Rattle.tag_parse.specs.declared.types.TagValue.{TagValue}
 use Rattle.tag_parse.specs.declared.types.TagValue.TheVariants.{UnsignedInt, Integer, Utf8, Binary, Float, Raw}
@@ -12,8 +12,6 @@ use Rattle.decoder_rules.specs.declared.types.DecodeError.{DecodeError}
 use Rattle.decoder_rules.specs.declared.types.DecodeError.TheVariants as error
 use Rattle.decoder_rules.specs.declared.types.Event.{Event}
 use Rattle.decoder_rules.specs.declared.types.Event.TheVariants.{Start, End, Data}
-use Rattle.decoder_rules.specs.declared.types.Optional.{Optional}
-use Rattle.decoder_rules.specs.declared.types.Optional.TheVariants.{Nothing, Number}
 use Rattle.decoder_rules.specs.declared.types.Refusal.{Refusal}
 use Rattle.decoder_rules.specs.declared.types.TagDecoder.{TagDecoder}
 use Rattle.numerals.specs.Numeral.{decimal, signed_decimal}
@@ -76,12 +74,12 @@ event_text (Data x p v) d starts taken = name_of x ++ ascii " " ++ value_text v 
 -- ---- the end of the list
 
 -- the name of a cut element, as far as it was read
-abbrev pub cut_name : Optional → List ℕ
-cut_name Nothing = ascii "an element"
-cut_name (Number x) = name_of x
+abbrev pub cut_name : Option ℕ → List ℕ
+cut_name None = ascii "an element"
+cut_name (Some x) = name_of x
 
 -- refusal 23: how far the input was read, and what it ends inside of
-unfoldable pub cut_text : Optional → ℕ → ℕ → List ℕ
+unfoldable pub cut_text : Option ℕ → ℕ → ℕ → List ℕ
 cut_text x place p =
     (ascii "cut at " ++ decimal p) ++ ascii ": 23, the input ends inside " ++ cut_name x ++ (ascii ", which began at " ++ decimal place)
 
@@ -90,23 +88,23 @@ unfoldable pub refused_text : ℕ → ℕ → List ℕ
 refused_text n place = (ascii "refused at " ++ decimal place) ++ (ascii ": " ++ decimal n) ++ ascii ", " ++ meaning n
 
 -- the ID that refusal 23 names
-abbrev pub cut_id : DecodeError → Optional
-cut_id error.TableShape = Nothing
-cut_id error.BadState = Nothing
-cut_id error.TooFar = Nothing
-cut_id error.AfterFinish = Nothing
-cut_id error.InvalidTagData = Nothing
-cut_id error.InvalidTagId = Nothing
-cut_id error.HierarchyError = Nothing
-cut_id error.InvalidTagSize = Nothing
-cut_id error.OversizedChildElement = Nothing
-cut_id error.TooManyOpen = Nothing
-cut_id error.FromUtf8Error = Nothing
-cut_id error.ReadF64Mismatch = Nothing
+abbrev pub cut_id : DecodeError → Option ℕ
+cut_id error.TableShape = None
+cut_id error.BadState = None
+cut_id error.TooFar = None
+cut_id error.AfterFinish = None
+cut_id error.InvalidTagData = None
+cut_id error.InvalidTagId = None
+cut_id error.HierarchyError = None
+cut_id error.InvalidTagSize = None
+cut_id error.OversizedChildElement = None
+cut_id error.TooManyOpen = None
+cut_id error.FromUtf8Error = None
+cut_id error.ReadF64Mismatch = None
 cut_id (error.UnexpectedEOF c) = c.id
-cut_id error.NotAMaster = Nothing
-cut_id error.InvalidIdForm = Nothing
-cut_id error.UnknownSizePastEnd = Nothing
+cut_id error.NotAMaster = None
+cut_id error.InvalidIdForm = None
+cut_id error.UnknownSizePastEnd = None
 
 -- a refusal, with the decoder at position p
 unfoldable pub refusal_text : Refusal → ℕ → List ℕ
@@ -132,14 +130,14 @@ too_large_text p = ascii "too large at " ++ decimal p ++ ascii ": the element do
 -- ---- a line
 
 -- the text of an answer, after the record d that it left, what was seen before it, and the bytes taken so far
-unfoldable pub answer_text : Answer → TagDecoder → Seen → List ℕ → List ℕ
-answer_text (answer.Event e) d s taken = indentation (depth_of e d) ++ event_text e d s.starts taken
-answer_text (answer.NeedMore missing) d s taken = too_large_text d.position
-answer_text answer.Finished d s taken = finish_text d.position s.front_missing s.size_missing
-answer_text (answer.Refused r) d s taken = refusal_text r d.position
+unfoldable pub answer_text : Result Answer Refusal → TagDecoder → Seen → List ℕ → List ℕ
+answer_text (Ok (answer.Event e)) d s taken = indentation (depth_of e d) ++ event_text e d s.starts taken
+answer_text (Ok (answer.NeedMore missing)) d s taken = too_large_text d.position
+answer_text (Ok answer.Finished) d s taken = finish_text d.position s.front_missing s.size_missing
+answer_text (Err r) d s taken = refusal_text r d.position
 
 -- the line of an answer: its text and a newline
-unfoldable pub named_line : Answer → TagDecoder → Seen → List ℕ → List ℕ
+unfoldable pub named_line : Result Answer Refusal → TagDecoder → Seen → List ℕ → List ℕ
 named_line a d s taken = answer_text a d s taken ++ (10 ∷ [])
 
 -- the most bytes of a line besides four for each byte taken, of which a text may be: 64 spaces, 192 bytes of text
@@ -148,5 +146,5 @@ most_named = 256
 
 -- what a call answers that is lent the bytes out: the line's length, and the line at their front; 0 and nothing written
 -- where fewer are lent than a line may have
-unfoldable pub named_line_out : Answer → TagDecoder → Seen → List ℕ → List ℕ → ℕ × List ℕ
+unfoldable pub named_line_out : Result Answer Refusal → TagDecoder → Seen → List ℕ → List ℕ → ℕ × List ℕ
 named_line_out a d s taken out = text_out (most_named + 4 * length taken) (named_line a d s taken) out

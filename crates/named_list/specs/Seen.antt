@@ -1,5 +1,5 @@
 -- What is kept from line to line of the list for people, so that its last line can say how much a finish means.
-use Rattle.std.specs.Prelude.{ℕ, ◌+◌, ◌-◌, min, Bool, false, ◌||◌, not, eqb, get_or}
+use Rattle.std.specs.Prelude.{ℕ, ◌+◌, ◌-◌, min, Bool, false, ◌||◌, not, eqb, get_or, Err, Ok, Result}
 use Rattle.spec_util.specs.Walk.{most_open, no_tag}
 use Rattle.spec_util.specs.declared.types.OpenTag.{OpenTag}
 use Rattle.decoder_rules.specs.declared.types.Answer.{Answer}
@@ -8,6 +8,7 @@ use Rattle.decoder_rules.specs.declared.types.Event.{Event}
 use Rattle.decoder_rules.specs.declared.types.Event.TheVariants.{Start, End, Data}
 use Rattle.decoder_rules.specs.declared.types.TagDecoder.{TagDecoder}
 use Rattle.named_list.specs.declared.types.Seen.{Seen}
+use Rattle.decoder_rules.specs.declared.types.Refusal.{Refusal}
 
 -- what is kept: the Starts that have had no End, whether an End came that had no Start, whether a size is not known
 abbrev pub seen : ℕ → Bool → Bool → Seen
@@ -29,8 +30,8 @@ seen_event (End e) d s = seen (s.starts - 1) (s.front_missing || eqb s.starts 0)
 seen_event (Data x p v) d s = s
 
 -- after an answer
-unfoldable pub seen_after : Answer → TagDecoder → Seen → Seen
-seen_after (answer.Event e) d s = seen_event e d s
-seen_after (answer.NeedMore missing) d s = s
-seen_after answer.Finished d s = s
-seen_after (answer.Refused r) d s = s
+unfoldable pub seen_after : Result Answer Refusal → TagDecoder → Seen → Seen
+seen_after (Ok (answer.Event e)) d s = seen_event e d s
+seen_after (Ok (answer.NeedMore missing)) d s = s
+seen_after (Ok answer.Finished) d s = s
+seen_after (Err r) d s = s

@@ -1,4 +1,4 @@
-// The text of an event: a master's start or end, or an element with its value.
+//! The text of an event: a master's start or end, or an element with its value.
 
 ghost use Rattle.std.specs.Prelude.{◌≡◌, ◌++◌, ◌+◌, ◌-◌, ◌*◌, ◌≤◌, min, length};
 ghost use Rattle.numerals.specs.Numeral.{decimal};
@@ -16,52 +16,31 @@ use spec_util::types::OpenTag;
 use tag_parse::types::{Range, TagValue};
 use texts::put_text;
 
-// The sum of two numbers, at most 32.
-fn at_most_32(a: usize, b: usize) -> usize
-    ensures { (result ≡ min (a + b) 32) × (result ≤ 32) }
-{
-    if 32 <= a {
-        return 32;
-    }
-    if 32 - a <= b {
-        return 32;
-    }
-    a + b
-}
-
-// One less, or 0.
-fn less_one(n: usize) -> usize
-    ensures { result ≡ n - 1 }
-{
-    if n == 0 { 0 } else { n - 1 }
-}
-
-// How many masters stand around an event, with the record that it left.
+/// How many masters stand around an event, with the record that it left: at most 32.
+#[tactic(auto, using(std::proofs::lemmas::Bool::Decides::nat_tests), unfolding(crate::specs::Named::depth_of))]
 pub fn depth_of(e: Event, d: TagDecoder) -> usize
     ensures { (result ≡ depth_of e d) × (result ≤ 32) }
 {
     match e {
-        Event::Start { .. } => at_most_32(less_one(d.open_count), 0),
-        Event::End(_) => at_most_32(d.open_count, d.waiting_count),
-        Event::Data { .. } => at_most_32(d.open_count, 0),
+        Event::Start { .. } => d.open_count.saturating_sub(1).min(32),
+        Event::End(_) => d.open_count.saturating_add(d.waiting_count).min(32),
+        Event::Data { .. } => d.open_count.min(32),
     }
 }
 
 // Where a master ends, or `?`.
+#[tactic(auto, using(std::proofs::lemmas::Bool::Decides::nat_tests, numerals::proofs::Putting::within), unfolding(crate::specs::Named::end_text))]
 fn put_master_end(known: bool, start: u64, size: u64, out: &mut [u8], at: usize) -> usize
     requires { at + 20 ≤ length out.old }
     ensures { Puts 20 result out.new out.old at (end_text known start size) }
 {
-    if known {
-        if size <= u64::MAX - start {
-            return put_decimal(start + size, out, at);
-        }
-        return put(b'?', out, at);
+    if known && size <= u64::MAX - start {
+        return put_decimal(start + size, out, at);
     }
     put(b'?', out, at)
 }
 
-// Words, and then a number in decimal.
+/// Puts words, and then a number in decimal.
 pub fn put_words_number(words: &[u8], n: u64, out: &mut [u8], at: usize) -> usize
     requires { at + (length words.now + 20) ≤ length out.old }
     ensures { Puts (length words.now + 20) result out.new out.old at (words.now ++ decimal n) }
@@ -107,14 +86,7 @@ fn put_bytes(range: Range, out: &mut [u8], at: usize) -> usize
 fn place_of(offset: u64, position: u64, count: usize) -> usize
     ensures { (result ≡ count - (position - offset)) × (result ≤ count) }
 {
-    if position < offset {
-        return count;
-    }
-    let n = position - offset;
-    if count as u64 <= n {
-        return 0;
-    }
-    count - n as usize
+    count.saturating_sub(position.saturating_sub(offset) as usize)
 }
 
 // Where the bytes of a range end, among so many, if they begin at a place.
@@ -122,14 +94,8 @@ fn place_past(range: Range, from: usize, count: usize) -> usize
     requires { from ≤ count }
     ensures { (result ≡ min (from + (range.end - range.begin)) count) × (from ≤ result) × (result ≤ count) }
 {
-    if range.end < range.begin {
-        return from;
-    }
-    let n = range.end - range.begin;
-    if (count - from) as u64 <= n {
-        return count;
-    }
-    from + n as usize
+    let length = range.end.saturating_sub(range.begin) as usize;
+    from.saturating_add(length).min(count)
 }
 
 // A text between quotation marks, of the bytes taken up to a position.
@@ -145,6 +111,7 @@ fn put_quoted(range: Range, position: u64, taken: &[u8], out: &mut [u8], at: usi
 }
 
 // A value, with the bytes taken up to a position.
+#[tactic(auto, using(numerals::proofs::Putting::within), unfolding(crate::specs::Named::value_text))]
 fn put_value(value: TagValue, position: u64, taken: &[u8], out: &mut [u8], at: usize) -> usize
     requires { at + (48 + 4 * length taken.now) ≤ length out.old }
     ensures { Puts (48 + 4 * length taken.now) result out.new out.old at (value_text value position taken.now) }
@@ -176,7 +143,8 @@ fn put_data(
     put_value(value, position, taken, out, after_space)
 }
 
-// An event, with the record that it left, the Starts that were open before it and the bytes taken so far.
+/// Puts an event, with the record that it left, the Starts that were open before it and the bytes taken so far.
+#[tactic(auto, using(numerals::proofs::Putting::within), unfolding(crate::specs::Named::event_text))]
 pub fn put_event(
     e: Event,
     d: TagDecoder,

@@ -1,4 +1,4 @@
-// How the list ends: a refusal, the finish, or an element that is too large.
+//! How the list ends: a refusal, the finish, or an element that is too large.
 
 ghost use Rattle.std.specs.Prelude.{◌≡◌, ◌+◌, ◌≤◌, length};
 ghost use Rattle.numerals.specs.Puts.{Puts};
@@ -8,47 +8,47 @@ use crate::elements::put_words_number;
 use crate::meanings::put_meaning;
 use crate::words::put_name;
 use decoder_rules::errors::error_number;
-use decoder_rules::types::{DecodeError, Optional, Refusal};
+use decoder_rules::types::{DecodeError, Refusal};
 use numerals::put_decimal;
 use texts::put_text;
 
 // The ID that refusal 23 names.
-fn cut_id(error: DecodeError) -> Optional
+fn cut_id(error: DecodeError) -> Option<u64>
     ensures { result ≡ cut_id error }
 {
     match error {
-        DecodeError::TableShape => Optional::Nothing,
-        DecodeError::BadState => Optional::Nothing,
-        DecodeError::TooFar => Optional::Nothing,
-        DecodeError::AfterFinish => Optional::Nothing,
-        DecodeError::InvalidTagData => Optional::Nothing,
-        DecodeError::InvalidTagId => Optional::Nothing,
-        DecodeError::HierarchyError => Optional::Nothing,
-        DecodeError::InvalidTagSize => Optional::Nothing,
-        DecodeError::OversizedChildElement => Optional::Nothing,
-        DecodeError::TooManyOpen => Optional::Nothing,
-        DecodeError::FromUtf8Error => Optional::Nothing,
-        DecodeError::ReadF64Mismatch => Optional::Nothing,
+        DecodeError::TableShape => None,
+        DecodeError::BadState => None,
+        DecodeError::TooFar => None,
+        DecodeError::AfterFinish => None,
+        DecodeError::InvalidTagData => None,
+        DecodeError::InvalidTagId => None,
+        DecodeError::HierarchyError => None,
+        DecodeError::InvalidTagSize => None,
+        DecodeError::OversizedChildElement => None,
+        DecodeError::TooManyOpen => None,
+        DecodeError::FromUtf8Error => None,
+        DecodeError::ReadF64Mismatch => None,
         DecodeError::UnexpectedEOF(cut) => cut.id,
-        DecodeError::NotAMaster => Optional::Nothing,
-        DecodeError::InvalidIdForm => Optional::Nothing,
-        DecodeError::UnknownSizePastEnd => Optional::Nothing,
+        DecodeError::NotAMaster => None,
+        DecodeError::InvalidIdForm => None,
+        DecodeError::UnknownSizePastEnd => None,
     }
 }
 
 // The name of a cut element, as far as it was read.
-fn put_cut_name(id: Optional, out: &mut [u8], at: usize) -> usize
+fn put_cut_name(id: Option<u64>, out: &mut [u8], at: usize) -> usize
     requires { at + 16 ≤ length out.old }
     ensures { Puts 16 result out.new out.old at (cut_name id) }
 {
     match id {
-        Optional::Nothing => put_text(b"an element", out, at),
-        Optional::Number(x) => put_name(x, out, at),
+        None => put_text(b"an element", out, at),
+        Some(x) => put_name(x, out, at),
     }
 }
 
 // Refusal 23: how far the input was read, and what it ends inside of.
-fn put_cut(id: Optional, place: u64, position: u64, out: &mut [u8], at: usize) -> usize
+fn put_cut(id: Option<u64>, place: u64, position: u64, out: &mut [u8], at: usize) -> usize
     requires { at + 128 ≤ length out.old }
     ensures { Puts 128 result out.new out.old at (cut_text id place position) }
 {
@@ -69,7 +69,7 @@ fn put_refused(number: u64, place: u64, out: &mut [u8], at: usize) -> usize
     put_meaning(number, out, after_comma)
 }
 
-// A refusal, with the decoder at a position.
+/// Puts a refusal, with the decoder at a position.
 #[tactic(auto, using(std::proofs::lemmas::Bool::Decides::nat_tests), unfolding(crate::specs::Named::refusal_text))]
 pub fn put_refusal(refusal: Refusal, position: u64, out: &mut [u8], at: usize) -> usize
     requires { at + 128 ≤ length out.old }
@@ -84,6 +84,7 @@ pub fn put_refusal(refusal: Refusal, position: u64, out: &mut [u8], at: usize) -
 }
 
 // What a finish at a position means.
+#[tactic(auto, using(std::proofs::lemmas::Bool::Decides::nat_tests, numerals::proofs::Putting::within), unfolding(crate::specs::Named::finish_word))]
 fn put_finish_word(position: u64, front: bool, size: bool, out: &mut [u8], at: usize) -> usize
     requires { at + 32 ≤ length out.old }
     ensures { Puts 32 result out.new out.old at (finish_word position front size) }
@@ -100,7 +101,7 @@ fn put_finish_word(position: u64, front: bool, size: bool, out: &mut [u8], at: u
     put_text(b"whole: ", out, at)
 }
 
-// The finish at a position, after what was seen.
+/// Puts the finish at a position, after what was seen.
 pub fn put_finish(position: u64, front: bool, size: bool, out: &mut [u8], at: usize) -> usize
     requires { at + 64 ≤ length out.old }
     ensures { Puts 64 result out.new out.old at (finish_text position front size) }
@@ -110,7 +111,7 @@ pub fn put_finish(position: u64, front: bool, size: bool, out: &mut [u8], at: us
     put_text(b" bytes", out, after_position)
 }
 
-// An element that is larger than the buffer, at a position.
+/// Puts that an element at a position is larger than the buffer.
 pub fn put_too_large(position: u64, out: &mut [u8], at: usize) -> usize
     requires { at + 80 ≤ length out.old }
     ensures { Puts 80 result out.new out.old at (too_large_text position) }

@@ -1,4 +1,4 @@
-// A float in decimal, where it is a multiple of 1/8, or its bits.
+//! A float in decimal, where it is a multiple of 1/8, or its bits.
 
 ghost use Rattle.std.specs.Prelude.{◌≡◌, ◌++◌, ◌+◌, ◌^◌, ◌≤◌, ◌<◌, length};
 ghost use Rattle.numerals.specs.Numeral.{hex16};
@@ -18,14 +18,12 @@ fn power_of_two(k: usize) -> u64
 }
 
 // How many eighths a float has, its sign left out, or 0.
+#[tactic(auto, using(crate::proofs::Eighths::too_small, crate::proofs::Eighths::too_large, crate::proofs::Eighths::whole_eighths, crate::proofs::Eighths::no_eighths))]
 fn eighths_of(bits: u64) -> u64
     ensures { result ≡ eighths_of bits }
 {
     let exponent = bits / 0x10_0000_0000_0000 % 0x800;
-    if exponent < 1020 {
-        return 0;
-    }
-    if 1072 < exponent {
+    if exponent < 1020 || 1072 < exponent {
         return 0;
     }
     let significand = bits % 0x10_0000_0000_0000 + 0x10_0000_0000_0000;
@@ -37,6 +35,7 @@ fn eighths_of(bits: u64) -> u64
 }
 
 // So many eighths, below 8, behind the whole number.
+#[tactic(auto, using(std::proofs::lemmas::Bool::Decides::nat_tests, numerals::proofs::Putting::within, numerals::proofs::Putting::nothing), unfolding(crate::specs::Floats::eighths_text))]
 fn put_eighths(n: u64, out: &mut [u8], at: usize) -> usize
     requires { at + 4 ≤ length out.old }
     ensures { Puts 4 result out.new out.old at (eighths_text n) }
@@ -80,7 +79,8 @@ fn put_bits(bits: u64, out: &mut [u8], at: usize) -> usize
     put_hex16(bits, out, next)
 }
 
-// A float: 0, a multiple of 1/8 in decimal, or its bits.
+/// Puts the float of a binary64 pattern: 0, a multiple of 1/8 in decimal, or its bits in hex.
+#[tactic(auto, using(std::proofs::lemmas::Bool::Decides::nat_tests, numerals::proofs::Putting::within), unfolding(crate::specs::Floats::float_text))]
 pub fn put_float(bits: u64, out: &mut [u8], at: usize) -> usize
     requires { at + 25 ≤ length out.old }
     ensures { Puts 25 result out.new out.old at (float_text bits) }

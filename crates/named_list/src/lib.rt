@@ -1,5 +1,5 @@
-// The list for people, on slices: a line for an answer, with the names of the bench table's elements, and what is kept
-// from line to line.
+//! The list for people, on slices: a line for an answer, with the names of the bench table's elements, and what is kept
+//! from line to line.
 #![tactic(auto)]
 
 pub mod elements;

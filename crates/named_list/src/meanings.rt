@@ -1,4 +1,4 @@
-// What a refusal means, in a few words.
+//! What a refusal means, in a few words.
 
 ghost use Rattle.std.specs.Prelude.{◌+◌, ◌≤◌, length};
 ghost use Rattle.numerals.specs.Puts.{Puts};
@@ -7,6 +7,7 @@ ghost use Rattle.named_list.specs.Meaning.{inner_meaning, header_meaning, conten
 use texts::put_text;
 
 // What 10 to 13 and 24 mean.
+#[tactic(auto, using(std::proofs::lemmas::Bool::Decides::nat_tests, numerals::proofs::Putting::within), unfolding(crate::specs::Meaning::inner_meaning))]
 fn put_inner_meaning(number: u64, out: &mut [u8], at: usize) -> usize
     requires { at + 48 ≤ length out.old }
     ensures { Puts 48 result out.new out.old at (inner_meaning number) }
@@ -21,6 +22,7 @@ fn put_inner_meaning(number: u64, out: &mut [u8], at: usize) -> usize
 }
 
 // What 14 to 18 mean.
+#[tactic(auto, using(std::proofs::lemmas::Bool::Decides::nat_tests, numerals::proofs::Putting::within), unfolding(crate::specs::Meaning::header_meaning))]
 fn put_header_meaning(number: u64, out: &mut [u8], at: usize) -> usize
     requires { at + 48 ≤ length out.old }
     ensures { Puts 48 result out.new out.old at (header_meaning number) }
@@ -35,6 +37,7 @@ fn put_header_meaning(number: u64, out: &mut [u8], at: usize) -> usize
 }
 
 // What 19 to 23 mean.
+#[tactic(auto, using(std::proofs::lemmas::Bool::Decides::nat_tests, numerals::proofs::Putting::within), unfolding(crate::specs::Meaning::content_meaning))]
 fn put_content_meaning(number: u64, out: &mut [u8], at: usize) -> usize
     requires { at + 48 ≤ length out.old }
     ensures { Puts 48 result out.new out.old at (content_meaning number) }
@@ -48,33 +51,28 @@ fn put_content_meaning(number: u64, out: &mut [u8], at: usize) -> usize
 }
 
 // What 80 and 81 mean.
+#[tactic(auto, using(std::proofs::lemmas::Bool::Decides::nat_tests, numerals::proofs::Putting::within), unfolding(crate::specs::Meaning::strict_meaning))]
 fn put_strict_meaning(number: u64, out: &mut [u8], at: usize) -> usize
     requires { at + 48 ≤ length out.old }
     ensures { Puts 48 result out.new out.old at (strict_meaning number) }
 {
-    if number == 80 {
-        return put_text(b"the ID has a wrong form or over 4 bytes", out, at);
+    match number {
+        80 => put_text(b"the ID has a wrong form or over 4 bytes", out, at),
+        _ => put_text(b"the header ends past the end of its master", out, at),
     }
-    put_text(b"the header ends past the end of its master", out, at)
 }
 
-// What a refusal means.
+/// Puts what the number of a refusal means.
 #[tactic(auto, using(std::proofs::lemmas::Bool::Decides::nat_tests), unfolding(crate::specs::Meaning::meaning))]
 pub fn put_meaning(number: u64, out: &mut [u8], at: usize) -> usize
     requires { at + 48 ≤ length out.old }
     ensures { Puts 48 result out.new out.old at (meaning number) }
 {
-    if number < 14 {
-        return put_inner_meaning(number, out, at);
+    match number {
+        0..=13 => put_inner_meaning(number, out, at),
+        14..=18 => put_header_meaning(number, out, at),
+        19..=23 => put_content_meaning(number, out, at),
+        24..=79 => put_inner_meaning(number, out, at),
+        _ => put_strict_meaning(number, out, at),
     }
-    if number < 19 {
-        return put_header_meaning(number, out, at);
-    }
-    if number < 24 {
-        return put_content_meaning(number, out, at);
-    }
-    if number < 80 {
-        return put_inner_meaning(number, out, at);
-    }
-    put_strict_meaning(number, out, at)
 }

@@ -1,4 +1,4 @@
-// The words of a line: names, spaces, and text that came from outside.
+//! The words of a line: names, spaces, and text that came from outside.
 
 ghost use Rattle.std.specs.Prelude.{◌≡◌, ◌∷◌, [], ◌+◌, ◌*◌, ◌/◌, ◌%◌, ◌≤◌, ◌<◌, length, get_or};
 ghost use Rattle.numerals.specs.Numeral.{glyph};
@@ -8,7 +8,7 @@ ghost use Rattle.named_list.specs.Words.{indentation, inner_name_of, name_of, is
 use numerals::{glyph_of, put, put_hex};
 use texts::put_text;
 
-// Two spaces for each of so many masters.
+/// Puts two spaces for each of so many masters.
 pub fn put_indentation(depth: usize, out: &mut [u8], at: usize) -> usize
     requires { (depth ≤ 32) × (at + 64 ≤ length out.old) }
     ensures { Puts 64 result out.new out.old at (indentation depth) }
@@ -18,6 +18,7 @@ pub fn put_indentation(depth: usize, out: &mut [u8], at: usize) -> usize
 }
 
 // The name of an element that is neither a Session nor a Void, or its ID.
+#[tactic(auto, using(std::proofs::lemmas::Bool::Decides::nat_tests, numerals::proofs::Putting::within), unfolding(crate::specs::Words::inner_name_of))]
 fn put_inner_name(id: u64, out: &mut [u8], at: usize) -> usize
     requires { at + 16 ≤ length out.old }
     ensures { Puts 16 result out.new out.old at (inner_name_of id) }
@@ -33,7 +34,8 @@ fn put_inner_name(id: u64, out: &mut [u8], at: usize) -> usize
     }
 }
 
-// The name of an element, or its ID.
+/// Puts the name of an element, or its ID in hex.
+#[tactic(auto, using(std::proofs::lemmas::Bool::Decides::nat_tests, numerals::proofs::Putting::within), unfolding(crate::specs::Words::name_of))]
 pub fn put_name(id: u64, out: &mut [u8], at: usize) -> usize
     requires { at + 16 ≤ length out.old }
     ensures { Puts 16 result out.new out.old at (name_of id) }
@@ -49,10 +51,7 @@ pub fn put_name(id: u64, out: &mut [u8], at: usize) -> usize
 fn is_late_control(b: u8) -> bool
     ensures { result ≡ is_late_control b }
 {
-    if b < 128 {
-        return false;
-    }
-    b < 160
+    matches!(b, 128..=159)
 }
 
 // Whether an octet between two others belongs to a control character.
@@ -60,19 +59,11 @@ fn is_late_control(b: u8) -> bool
 fn is_control(before: u8, b: u8, after: u8) -> bool
     ensures { result ≡ is_control before b after }
 {
-    if b < 32 {
-        return true;
+    match b {
+        0..=31 | 127 => true,
+        0xC2 => is_late_control(after),
+        _ => before == 0xC2 && is_late_control(b),
     }
-    if b == 127 {
-        return true;
-    }
-    if b == 0xC2 {
-        return is_late_control(after);
-    }
-    if before == 0xC2 {
-        return is_late_control(b);
-    }
-    false
 }
 
 // \x and the two hex digits of an octet.
@@ -95,7 +86,7 @@ fn put_marked(b: u8, out: &mut [u8], at: usize) -> usize
 }
 
 // An octet between two others, as it is shown.
-#[tactic(auto, using(std::proofs::lemmas::Bool::Decides::nat_tests), unfolding(crate::specs::Words::shown_octet))]
+#[tactic(auto, using(std::proofs::lemmas::Bool::Decides::nat_tests, numerals::proofs::Putting::within), unfolding(crate::specs::Words::shown_octet))]
 fn put_shown_octet(before: u8, b: u8, after: u8, out: &mut [u8], at: usize) -> usize
     requires { at + 4 ≤ length out.old }
     ensures { Puts 4 result out.new out.old at (shown_octet before b after) }
@@ -103,13 +94,10 @@ fn put_shown_octet(before: u8, b: u8, after: u8, out: &mut [u8], at: usize) -> u
     if is_control(before, b, after) {
         return put_escape(b, out, at);
     }
-    if b == b'"' {
-        return put_marked(b, out, at);
+    match b {
+        b'"' | b'\\' => put_marked(b, out, at),
+        _ => put(b, out, at),
     }
-    if b == b'\\' {
-        return put_marked(b, out, at);
-    }
-    put(b, out, at)
 }
 
 // The octet before a place, or 0.
@@ -117,30 +105,23 @@ fn octet_before(text: &[u8], i: usize) -> u8
     requires { i < length text.now }
     ensures { result ≡ get_or (0 ∷ text.now) i 0 }
 {
-    if i == 0 {
-        return 0;
-    }
-    text[i - 1]
+    if i == 0 { 0 } else { text[i - 1] }
 }
 
 // The octet at a place, or 0.
 fn octet_at(text: &[u8], i: usize) -> u8
     ensures { result ≡ get_or text.now i 0 }
 {
-    if i < text.len() {
-        return text[i];
-    }
-    0
+    text.get(i).copied().unwrap_or(0)
 }
 
-// A text as it is shown.
+/// Puts a text as it is shown: control characters escaped, a `\` before `\` and `"`.
 pub fn put_shown(text: &[u8], out: &mut [u8], at: usize) -> usize
     requires { at + 4 * length text.now ≤ length out.old }
     ensures { Puts (4 * length text.now) result out.new out.old at (shown text.now) }
 {
     let mut to = at;
-    let mut i: usize = 0;
-    while i < text.len() {
+    for i in 0..text.len() {
         to = put_shown_octet(
             octet_before(text, i),
             octet_at(text, i),
@@ -148,7 +129,6 @@ pub fn put_shown(text: &[u8], out: &mut [u8], at: usize) -> usize
             out,
             to,
         );
-        i += 1;
     }
     to
 }

@@ -1,4 +1,4 @@
-// Numbers as text, put at a place of lent bytes. Each function answers the place after what it put.
+//! Numbers as text, put at a place of lent bytes. Each function answers the place after what it put.
 #![tactic(auto)]
 
 ghost use Rattle.std.specs.Prelude.{◌≡◌, [], ◌∷◌, ◌+◌, ◌≤◌, ◌<◌, length};
@@ -7,7 +7,7 @@ ghost use Rattle.numerals.specs.Puts.{Puts};
 
 use tools::integer::absolute_value;
 
-// One byte.
+/// Puts one byte at the place `at`.
 pub fn put(b: u8, out: &mut [u8], at: usize) -> usize
     requires { at + 1 ≤ length out.old }
     ensures { Puts 1 result out.new out.old at (b ∷ []) }
@@ -16,16 +16,20 @@ pub fn put(b: u8, out: &mut [u8], at: usize) -> usize
     at + 1
 }
 
-// The ASCII code of a digit below 16: 0 to 9, then A to F.
+/// The ASCII code of a digit below 16: `0` to `9`, then `A` to `F`.
 pub fn glyph_of(d: u64) -> u8
     requires { d < 16 }
     ensures { result ≡ glyph d }
 {
-    if d < 10 { b'0' + d as u8 } else { 55 + d as u8 }
+    if d < 10 {
+        b'0' + d as u8
+    } else {
+        b'A' + (d - 10) as u8
+    }
 }
 
 // The last k digits of n.
-#[tactic(auto, using(crate::proofs::Digits::digit_more, crate::proofs::Putting::nothing), unfolding(crate::specs::Numeral::digits))]
+#[tactic(auto, using(crate::proofs::Putting::nothing), unfolding(crate::specs::Numeral::digits))]
 fn put_digits(n: u64, base: u64, k: usize, out: &mut [u8], at: usize) -> usize
     requires { (1 < base) × (base ≤ 16) × (at + k ≤ length out.old) }
     ensures { Puts k result out.new out.old at (digits base k n) }
@@ -61,7 +65,7 @@ fn put_all(n: u64, base: u64, most: usize, out: &mut [u8], at: usize) -> usize
     put_digits(n, base, places_of(n, base, most), out, at)
 }
 
-// A number in hex, with no zero in front.
+/// Puts a number in hex, with no zero in front: at most 16 digits.
 pub fn put_hex(n: u64, out: &mut [u8], at: usize) -> usize
     requires { at + 16 ≤ length out.old }
     ensures { Puts 16 result out.new out.old at (hex n) }
@@ -69,7 +73,7 @@ pub fn put_hex(n: u64, out: &mut [u8], at: usize) -> usize
     put_all(n, 16, 16, out, at)
 }
 
-// A number in 16 hex digits, zeros in front too.
+/// Puts a number in 16 hex digits, zeros in front too.
 pub fn put_hex16(n: u64, out: &mut [u8], at: usize) -> usize
     requires { at + 16 ≤ length out.old }
     ensures { Puts 16 result out.new out.old at (hex16 n) }
@@ -77,7 +81,7 @@ pub fn put_hex16(n: u64, out: &mut [u8], at: usize) -> usize
     put_digits(n, 16, 16, out, at)
 }
 
-// A number in decimal, with no zero in front.
+/// Puts a number in decimal, with no zero in front: at most 20 digits.
 pub fn put_decimal(n: u64, out: &mut [u8], at: usize) -> usize
     requires { at + 20 ≤ length out.old }
     ensures { Puts 20 result out.new out.old at (decimal n) }
@@ -85,7 +89,7 @@ pub fn put_decimal(n: u64, out: &mut [u8], at: usize) -> usize
     put_all(n, 10, 20, out, at)
 }
 
-// A signed number in decimal, after a `-` if it is negative.
+/// Puts a signed number in decimal, after a `-` if it is negative: at most 21 bytes.
 #[tactic(auto, using(crate::proofs::Digits::put_negative, crate::proofs::Digits::put_natural))]
 pub fn put_signed(v: i64, out: &mut [u8], at: usize) -> usize
     requires { at + 21 ≤ length out.old }

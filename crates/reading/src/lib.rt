@@ -1,5 +1,5 @@
-// Standard input, read until there is something to say of it. No contract can say which bytes a read of it gives: the
-// work on them is in functions on slices. And the arguments that the programs share, and how they tell that they failed.
+//! Standard input, read until there is something to say of it. No contract can say which bytes a read of it gives: the
+//! work on them is in functions on slices. And the arguments that the programs share, and how they tell that they failed.
 #![tactic(auto)]
 
 pub mod arguments;
@@ -28,12 +28,14 @@ fn is_made_again<C: Clock>(clock: &C, error: &io::Error) -> bool
     ensures interrupted { IsFalse result → error_kind error.now ≢ ErrorKind.Interrupted }
     ensures not_ready { IsFalse result → error_kind error.now ≢ ErrorKind.WouldBlock }
 {
-    let kind = error.kind();
-    if kind == ErrorKind::WouldBlock {
-        pause(clock);
-        return true;
+    match error.kind() {
+        ErrorKind::Interrupted => true,
+        ErrorKind::WouldBlock => {
+            pause(clock);
+            true
+        }
+        _ => false,
     }
-    kind == ErrorKind::Interrupted
 }
 
 // What is answered after more reads than any run makes.
@@ -44,10 +46,10 @@ fn too_many_reads() -> io::Error
     io::Error::from(ErrorKind::TimedOut)
 }
 
-// One read of an input, made again until it was not interrupted and the input had something to give or had ended: how
-// many bytes it put at the front of the lent ones, 0 at the end of input, or why it cannot be read. Of an input whose
-// bytes are known, they are the next ones, and no read that is made again loses any. Nothing says that an input comes, so
-// the reads are counted down from a number that no run uses up.
+/// One read of an input, made again until it was not interrupted and the input had something to give or had ended: how
+/// many bytes it put at the front of the lent ones, 0 at the end of input, or why it cannot be read. Of an input whose
+/// bytes are known, they are the next ones, and no read that is made again loses any. Nothing says that an input comes, so
+/// there is an end to the reads, `TimedOut`, after more than any run makes.
 pub fn read_input<R: Read, C: Clock>(
     input: &mut R,
     clock: &C,
@@ -60,8 +62,7 @@ pub fn read_input<R: Read, C: Clock>(
     ensures interrupted { IfErr result (λ e. error_kind e ≢ ErrorKind.Interrupted) }
     ensures not_ready { IfErr result (λ e. error_kind e ≢ ErrorKind.WouldBlock) }
 {
-    let mut reads_left = u64::MAX;
-    while 0 < reads_left {
+    for _ in 0..u64::MAX {
         match input.read(space) {
             Ok(got) => return Ok(got),
             Err(error) => {
@@ -70,7 +71,6 @@ pub fn read_input<R: Read, C: Clock>(
                 }
             }
         }
-        reads_left -= 1;
     }
     Err(too_many_reads())
 }

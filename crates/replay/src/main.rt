@@ -1,4 +1,4 @@
-// Answers the script of calls on standard input, a line for a call, on standard output.
+//! Answers the script of calls on standard input, a line for a call, on standard output.
 #![tactic(auto)]
 
 use std::io;

@@ -12,7 +12,6 @@ use Rattle.basics.proofs.Maps.{map_reversed}
 use Rattle.tools.specs.Bytes.{Octets}
 use Rattle.table.specs.Check.{check_table}
 use Rattle.table.specs.Table.{table_of}
-use Rattle.table.specs.declared.types.Checked.TheVariants.{Passed}
 use Rattle.spec_util.specs.Walk.{no_tag}
 use Rattle.spec_util.specs.declared.types.OpenTag.{OpenTag}
 use Rattle.decoder_rules.specs.Record.{opens, waits, no_end, with_settings}
@@ -41,6 +40,7 @@ use Rattle.restarts.proofs.SeenCalls.{note_seen}
 use Rattle.restarts.proofs.SeenDecision.{sound_arrays, sound_good, sound_full, seen-opens, seen-waits}
 use Rattle.restarts.proofs.SeenHistory.{parents_seen, counts-seen, counts_go_on, agree_implied, later_agree, agree_first, told_whole}
 use Rattle.restarts.proofs.SeenMoves.{seen_sound}
+use Rattle.std.specs.Prelude.{Ok}
 
 -- ---- the record that was read
 
@@ -143,7 +143,7 @@ module _ (es ps : List ℕ) (cs ds : List Call) (l : Lent (ds ++ cs)) where
         ∙ ap (λ (g : List Step). seen_parents ps t g (lent c) (response_to es ps here c)) (sym (history_split es ps cs ds))
         ∙ ap (λ (d : TagDecoder). seen_parents ps t (history es ps (ds ++ cs)) (lent c) (response_to es ps d c)) (sym (record-split es ps cs ds))
 
-    module _ (checked : check_table es ps ≡ Passed) where
+    module _ (checked : check_table es ps ≡ (Ok tt)) where
       parents_implied : implied_by ps (note_of es ps there c) ≡ parents_at es ps cs ds c
       parents_implied =
           ap (implied_by ps) (same_note ∙ ap (λ (d : TagDecoder). note_of es ps d c) (sym (record-split es ps cs ds)))
@@ -163,7 +163,7 @@ module _ (es ps : List ℕ) (cs ds : List Call) (l : Lent (ds ++ cs)) where
           (subst (λ (counts : List ℕ). NextCounts (with_implied (implied_by ps (note_of es ps there c)) counts) (response_to es ps there c) (next es ps there c)) held
           (next_counts es ps checked there tied (tidy_from es ps (read_back es ps cs) (read_tidy stored stored_sound (absent_after es ps cs (lent_first cs ds l))) ds (lent-later cs ds l)) c byte))
 
-module _ (es ps : List ℕ) (checked : check_table es ps ≡ Passed) (cs : List Call) where
+module _ (es ps : List ℕ) (checked : check_table es ps ≡ (Ok tt)) (cs : List Call) where
   held_since : (ds : List Call) → Lent (ds ++ cs) → counts_in (record_since es ps cs ds) ≡ child_counts_since ps (table_of es ps) (history es ps cs) (history_since es ps cs ds)
   unfolding record_from history_from counts_on_from Lent
   held_since [] l = zero_counts (record_after es ps cs) (sound_after es ps cs l) ∙ ap (map (λ n. 0)) (counted_after es ps checked cs l)
@@ -208,7 +208,7 @@ module _ (es ps : List ℕ) (checked : check_table es ps ≡ Passed) (cs : List 
         ∙ sym (ap (λ (k : List ℕ). get_or k 0 0) counts_without))
 
 -- the statement, of a table that the check passes
-pub counts_after_reading : (es ps : List ℕ) → check_table es ps ≡ Passed → CountsAfterReading es ps
+pub counts_after_reading : (es ps : List ℕ) → check_table es ps ≡ Ok tt → CountsAfterReading es ps
 counts_after_reading es ps checked = record {
   same_history = same_history es ps;
   end_counts_since = λ cs ds c l end n e. subst (λ (r : Response). EndCountsIn r (counts_since_at es ps cs ds c)) e (told es ps checked cs ds c l).told;

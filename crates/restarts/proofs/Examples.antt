@@ -10,15 +10,16 @@ use Rattle.guarantees.proofs.Computing.{history_computes}
 use Rattle.restarts.specs.Comparing.{seen_master, seen_end, seen_record}
 use Rattle.restarts.specs.Runs.{record_from, history_from}
 use Rattle.restarts.specs.Since.{history_since}
+use Rattle.std.specs.Prelude.{Err, Ok}
 
 -- the count in what a call tells, where it is an End
 abbrev count_told : Response → List ℕ
-count_told (answered (answer.Event (event.Start x o)) n) = []
-count_told (answered (answer.Event (event.End end)) n) = end.count ∷ []
-count_told (answered (answer.Event (event.Data x o v)) n) = []
-count_told (answered (answer.NeedMore missing) n) = []
-count_told (answered answer.Finished n) = []
-count_told (answered (answer.Refused r) n) = []
+count_told (answered (Ok (answer.Event (event.Start x o))) n) = []
+count_told (answered (Ok (answer.Event (event.End end))) n) = end.count ∷ []
+count_told (answered (Ok (answer.Event (event.Data x o v))) n) = []
+count_told (answered (Ok (answer.NeedMore missing)) n) = []
+count_told (answered (Ok answer.Finished) n) = []
+count_told (answered (Err r) n) = []
 count_told (searched a n) = []
 count_told silent = []
 

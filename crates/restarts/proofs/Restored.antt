@@ -14,20 +14,22 @@ use Rattle.restarts.specs.Runs.{history_from}
 use Rattle.restarts.proofs.Alike.{seen_is_same, run_alike}
 use Rattle.restarts.proofs.RunsInParts.{history_split, lent_first, lent-later, sound_after}
 use Rattle.restarts.proofs.SeenMoves.{seen_sound}
+use Rattle.std.specs.Prelude.{Err, Ok, Result}
+use Rattle.decoder_rules.specs.declared.types.Refusal.{Refusal}
 
 -- ---- what is compared wholly is all compared
 
-answer_wholly : (a : Answer) → seen_answer wholly a ≡ a
+answer_wholly : (a : Result Answer Refusal) → seen_answer wholly a ≡ a
 unfolding seen_end
-answer_wholly (answer.Event (event.Start id o)) = refl
-answer_wholly (answer.Event (event.End end)) = refl
-answer_wholly (answer.Event (event.Data id o v)) = refl
-answer_wholly (answer.NeedMore missing) = refl
-answer_wholly answer.Finished = refl
-answer_wholly (answer.Refused r) = refl
+answer_wholly (Ok (answer.Event (event.Start id o))) = refl
+answer_wholly (Ok (answer.Event (event.End end))) = refl
+answer_wholly (Ok (answer.Event (event.Data id o v))) = refl
+answer_wholly (Ok (answer.NeedMore missing)) = refl
+answer_wholly (Ok answer.Finished) = refl
+answer_wholly (Err r) = refl
 
 response_wholly : (r : Response) → seen_response wholly r ≡ r
-response_wholly (answered a n) = ap (λ (b : Answer). answered b n) (answer_wholly a)
+response_wholly (answered a n) = ap (λ (b : Result Answer Refusal). answered b n) (answer_wholly a)
 response_wholly (searched a n) = refl
 response_wholly silent = refl
 

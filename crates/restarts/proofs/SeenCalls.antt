@@ -15,8 +15,6 @@ use Rattle.table.specs.Table.{Entry, table_of}
 use Rattle.spec_util.specs.Walk.{no_tag}
 use Rattle.spec_util.specs.declared.types.OpenTag.{OpenTag}
 use Rattle.tag_parse.specs.Header.{read_header}
-use Rattle.tag_parse.specs.declared.types.ReadHeader.{ReadHeader}
-use Rattle.tag_parse.specs.declared.types.ReadHeader.TheVariants as header
 use Rattle.tag_parse.specs.declared.types.TagHeader.{TagHeader}
 use Rattle.decoder_rules.specs.Record.{opens, with_settings, with_notes, at_position}
 use Rattle.decoder_rules.specs.OneCall.{check_record10to12, step6, step7, noted, valid_header}
@@ -29,15 +27,10 @@ use Rattle.decoder_rules.specs.Settings.{with_allowances, with_strict, with_grea
 use Rattle.decoder_rules.specs.declared.types.Action.TheVariants as act
 use Rattle.decoder_rules.specs.declared.types.Answer.{Answer}
 use Rattle.decoder_rules.specs.declared.types.Answer.TheVariants as answer
-use Rattle.decoder_rules.specs.declared.types.Check.{Check}
-use Rattle.decoder_rules.specs.declared.types.Check.TheVariants.{Pass, Fail}
 use Rattle.decoder_rules.specs.declared.types.Decision.{Decision}
 use Rattle.decoder_rules.specs.declared.types.Decoded.{Decoded}
 use Rattle.decoder_rules.specs.declared.types.DecodeError.{DecodeError}
 use Rattle.decoder_rules.specs.declared.types.DecodeError.TheVariants as error
-use Rattle.decoder_rules.specs.declared.types.Note.{Note}
-use Rattle.decoder_rules.specs.declared.types.Optional.{Optional}
-use Rattle.decoder_rules.specs.declared.types.Optional.TheVariants.{Nothing, Number}
 use Rattle.decoder_rules.specs.declared.types.Recovered.{Recovered}
 use Rattle.decoder_rules.specs.declared.types.Search.TheVariants as search
 use Rattle.decoder_rules.specs.declared.types.Settings.{Settings}
@@ -56,6 +49,12 @@ use Rattle.restarts.specs.Comparing.{Extent, seen_master, Sound, seen_record, se
 use Rattle.restarts.proofs.SeenDecision.{Full, sound_good, sound_full, by_opens, seen-opens, check_seen, masters_seen, valid_seen, noted-seen, noted_full, decide-seen}
 use Rattle.restarts.proofs.SeenMoves.{no_master_lem, seen_twice, sizes_seen, seen_decoded, move_seen}
 use Rattle.restarts.proofs.SoundCalls.{exit_takes, notes_sound, with_note_sound, on_sound}
+use Rattle.std.specs.Prelude.{Err, None, Ok, Option, Result, Some, ⊤}
+use Rattle.tag_parse.specs.declared.types.ParseError.{ParseError}
+use Rattle.table.specs.declared.types.Path.{Path}
+use Rattle.decoder_rules.specs.declared.types.Refusal.{Refusal}
+use Rattle.tools.specs.declared.status.Status.{Status}
+use Rattle.tools.specs.declared.status.Status.TheVariants as status
 
 module _ (x : Extent) where
   -- ---- decode
@@ -111,15 +110,15 @@ module _ (x : Extent) where
     ending_sound : Sound (atEnd d)
     ending_sound = notes_sound d k d.position d.settled true (omega arith) (sound_good d k).place
 
-    finishes-seen : seen_decoded x (gives answer.Finished 0 (atEnd e)) ≡ seen_decoded x (gives answer.Finished 0 (atEnd d))
-    finishes-seen = ap (λ (b : TagDecoder). gives answer.Finished 0 (seen_record x b)) ending-seen ∙ ap (λ (b : TagDecoder). gives answer.Finished 0 b) (seen_twice x (atEnd d) ending_sound)
+    finishes-seen : seen_decoded x (gives (Ok answer.Finished) 0 (atEnd e)) ≡ seen_decoded x (gives (Ok answer.Finished) 0 (atEnd d))
+    finishes-seen = ap (λ (b : TagDecoder). gives (Ok answer.Finished) 0 (seen_record x b)) ending-seen ∙ ap (λ (b : TagDecoder). gives (Ok answer.Finished) 0 b) (seen_twice x (atEnd d) ending_sound)
 
-    closes_fits : 0 < d.open_count → ActionApplies (atEnd d) 0 (act.Close 0)
+    closes_fits : 0 < d.open_count → ActionApplies (atEnd d) 0 (Ok (act.Close 0))
     unfolding ActionApplies with_notes
     closes_fits l = (l, (sound_good d k).open_count)
 
-    closes_seen : 0 < d.open_count → seen_decoded x (move (atEnd e) (act.Close 0)) ≡ seen_decoded x (move (atEnd d) (act.Close 0))
-    closes_seen l = ap (λ (b : TagDecoder). seen_decoded x (move b (act.Close 0))) ending-seen ∙ move_seen x (atEnd d) ending_sound 0 (act.Close 0) (closes_fits l) tt
+    closes_seen : 0 < d.open_count → seen_decoded x (move (atEnd e) (Ok (act.Close 0))) ≡ seen_decoded x (move (atEnd d) (Ok (act.Close 0)))
+    closes_seen l = ap (λ (b : TagDecoder). seen_decoded x (move b (Ok (act.Close 0)))) ending-seen ∙ move_seen x (atEnd d) ending_sound 0 (Ok (act.Close 0)) (closes_fits l) tt
 
     exit_seen : {r : Decoded} → EndExit t d s r → seen_decoded x (end_of_input t e s) ≡ seen_decoded x r
     exit_seen (end.bytes_left l) = by_exit (end.bytes_left l) (unfold seen_record in refused_seen (error.UnexpectedEOF (cut_bytes d.position s)) d.position)
@@ -135,11 +134,11 @@ module _ (x : Extent) where
     pub end_seen : seen_decoded x (end_of_input t e s) ≡ seen_decoded x (end_of_input t d s)
     end_seen = exit_seen (end_exits t d s)
 
-  quiet_seen : (a : Answer) → is_quiet (seen_answer x a) ≡ is_quiet a
-  quiet_seen (answer.Event y) = refl
-  quiet_seen (answer.NeedMore missing) = refl
-  quiet_seen answer.Finished = refl
-  quiet_seen (answer.Refused r) = refl
+  quiet_seen : (a : Result Answer Refusal) → is_quiet (seen_answer x a) ≡ is_quiet a
+  quiet_seen (Ok (answer.Event y)) = refl
+  quiet_seen (Ok (answer.NeedMore missing)) = refl
+  quiet_seen (Ok answer.Finished) = refl
+  quiet_seen (Err r) = refl
 
   module _ (es ps : List ℕ) (d : TagDecoder) (k : Sound d) (s : List ℕ) (byte : Octets s) where
     quiet_alike : is_quiet (decode es ps (seen_record x d) s).answer ≡ is_quiet (decode es ps d s).answer
@@ -167,14 +166,14 @@ module _ (x : Extent) where
   -- ---- a recovery
 
   module _ (ps : List ℕ) (t : List Entry) where
-    header_seen : (d : TagDecoder) → Full d → (h : TagHeader) (n : Note) → valid_header t (noted ps (seen_record x d) n) h ≡ valid_header t (noted ps d n) h
+    header_seen : (d : TagDecoder) → Full d → (h : TagHeader) (n : Option Path) → valid_header t (noted ps (seen_record x d) n) h ≡ valid_header t (noted ps d n) h
     header_seen d k h n = ap (λ (b : TagDecoder). valid_header t b h) (noted-seen x ps d n) ∙ valid_seen x t (noted ps d n) (noted_full ps d k n) h
 
-    standing-seen : (d : TagDecoder) → Full d → (r : ReadHeader) → standing ps t (seen_record x d) r ≡ standing ps t d r
+    standing-seen : (d : TagDecoder) → Full d → (r : Result (Status TagHeader) ParseError) → standing ps t (seen_record x d) r ≡ standing ps t d r
     unfolding seen_record
-    standing-seen d k (header.NeedMore missing) = refl
-    standing-seen d k (header.Refused y) = refl
-    standing-seen d k (header.Header h) = ap (λ (c : Check). cond (step6 d h && passes c) Valid Other) (header_seen d k h (step7 t d h))
+    standing-seen d k (Ok (status.NeedMore missing)) = refl
+    standing-seen d k (Err y) = refl
+    standing-seen d k (Ok (status.Complete h)) = ap (λ (c : Result ⊤ DecodeError). cond (step6 d h && passes c) Valid Other) (header_seen d k h (step7 t d h))
 
     module _ (d : TagDecoder) (k : Sound d) (s : List ℕ) where
       on_seen : (n i : ℕ) → record_on ps t (seen_record x d) s n i ≡ seen_record x (record_on ps t d s n i)
@@ -201,15 +200,15 @@ module _ (x : Extent) where
   seen_recovered r = record { answer = r.answer; taken = r.taken; state = seen_record x r.state }
 
   found-seen : (y : Standing) (n : ℕ) (d : TagDecoder) → Sound d → seen_recovered (recovered_at y n (seen_record x d)) ≡ seen_recovered (recovered_at y n d)
-  found-seen Incomplete n d k = ap (λ (b : TagDecoder). record { answer = search.NotFound n; taken = n; state = b }) (seen_twice x d k)
-  found-seen Valid n d k = ap (λ (b : TagDecoder). record { answer = search.Found n; taken = n; state = b }) (sizes_seen x d k n)
-  found-seen Other n d k = ap (λ (b : TagDecoder). record { answer = search.NotFound n; taken = n; state = b }) (seen_twice x d k)
+  found-seen Incomplete n d k = ap (λ (b : TagDecoder). record { answer = Ok (search.NotFound n); taken = n; state = b }) (seen_twice x d k)
+  found-seen Valid n d k = ap (λ (b : TagDecoder). record { answer = Ok (search.Found n); taken = n; state = b }) (sizes_seen x d k n)
+  found-seen Other n d k = ap (λ (b : TagDecoder). record { answer = Ok (search.NotFound n); taken = n; state = b }) (seen_twice x d k)
 
   -- what a recovery that the first tests refuse gives
   abbrev refused_by : DecodeError → ℕ → TagDecoder → Recovered
-  refused_by y p d = record { answer = search.Refused (record { error = y; place = p }); taken = 0; state = d }
+  refused_by y p d = record { answer = Err (record { error = y; place = p }); taken = 0; state = d }
 
-  refused_by_lem : (es ps : List ℕ) (d : TagDecoder) (s : List ℕ) (y : DecodeError) → check_record10to12 es ps d (length s) ≡ Fail y → try_recover es ps d s ≡ refused_by y d.position d
+  refused_by_lem : (es ps : List ℕ) (d : TagDecoder) (s : List ℕ) (y : DecodeError) → check_record10to12 es ps d (length s) ≡ Err y → try_recover es ps d s ≡ refused_by y d.position d
   unfolding try_recover
   refused_by_lem es ps d s y q = rw q
 
@@ -228,15 +227,15 @@ module _ (x : Extent) where
         i : ℕ
         i = first_place ps t d s
 
-        go : (c : Check) → check_record10to12 es ps d (length s) ≡ c → seen_recovered (try_recover es ps (seen_record x d) s) ≡ seen_recovered (try_recover es ps d s)
-        go Pass q =
+        go : (c : Result ⊤ DecodeError) → check_record10to12 es ps d (length s) ≡ c → seen_recovered (try_recover es ps (seen_record x d) s) ≡ seen_recovered (try_recover es ps d s)
+        go (Ok _) q =
             ap seen_recovered (recovery_is_first es ps (seen_record x d) s (check_seen x es ps d k (length s) ∙ q))
             ∙ ap (λ (j : ℕ). seen_recovered (recovered_at (stands_at ps t (seen_record x d) s j) j (record_on ps t (seen_record x d) s (suc j) j))) (place_seen ps t d k s)
             ∙ ap (λ (y : Standing). seen_recovered (recovered_at y i (record_on ps t (seen_record x d) s (suc i) i))) (stands_seen ps t d k s i)
             ∙ ap (λ (b : TagDecoder). seen_recovered (recovered_at (stands_at ps t d s i) i b)) (on_seen ps t d k s (suc i) i)
             ∙ found-seen (stands_at ps t d s i) i (record_on ps t d s (suc i) i) (on_sound es ps d k s (passed12 es ps d (length s) q) (suc i) i (first_is_least es ps d s).within)
             ∙ sym (ap seen_recovered (recovery_is_first es ps d s q))
-        go (Fail y) q =
+        go (Err y) q =
             ap seen_recovered (refused_by_lem es ps (seen_record x d) s y (check_seen x es ps d k (length s) ∙ q))
             ∙ still_refused d k y
             ∙ sym (ap seen_recovered (refused_by_lem es ps d s y q))
@@ -248,10 +247,10 @@ module _ (x : Extent) where
   unfolding with_settings seen_record
   set-seen d k z = ap (λ (b : TagDecoder). with_settings b z) (seen_twice x d k)
 
-  limited_seen : (d : TagDecoder) → Sound d → (n : Optional) → seen_record x (limited_to (seen_record x d) n) ≡ seen_record x (limited_to d n)
+  limited_seen : (d : TagDecoder) → Sound d → (n : Option ℕ) → seen_record x (limited_to (seen_record x d) n) ≡ seen_record x (limited_to d n)
   unfolding seen_record
-  limited_seen d k Nothing = set-seen d k (with_greatest d.settings false 0)
-  limited_seen d k (Number n) = set-seen d k (with_greatest d.settings true n)
+  limited_seen d k None = set-seen d k (with_greatest d.settings false 0)
+  limited_seen d k (Some n) = set-seen d k (with_greatest d.settings true n)
 
   module _ (es ps : List ℕ) (d : TagDecoder) (k : Sound d) where
     -- what any call tells is the same, as far as it is compared
@@ -272,10 +271,10 @@ module _ (x : Extent) where
     next_seen (strictly b) byte = unfold seen_record in set-seen d k (with_strict d.settings b)
     next_seen (limit n) byte = limited_seen d k n
 
-    search_note_lem : (s : List ℕ) (c : Check) → search_note_or ps (table_of es ps) (seen_record x d) s c ≡ search_note_or ps (table_of es ps) d s c
+    search_note_lem : (s : List ℕ) (c : Result ⊤ DecodeError) → search_note_or ps (table_of es ps) (seen_record x d) s c ≡ search_note_or ps (table_of es ps) d s c
     unfolding note_before seen_record
-    search_note_lem s Pass = ap (λ (i : ℕ). note_before (table_of es ps) d s (suc i)) (place_seen ps (table_of es ps) d k s)
-    search_note_lem s (Fail y) = refl
+    search_note_lem s (Ok _) = ap (λ (i : ℕ). note_before (table_of es ps) d s (suc i)) (place_seen ps (table_of es ps) d k s)
+    search_note_lem s (Err y) = refl
 
     -- and so is the note
     pub note_seen : (c : Call) → note_of es ps (seen_record x d) c ≡ note_of es ps d c

@@ -20,8 +20,6 @@ use Rattle.spec_util.specs.declared.types.OpenTag.{OpenTag}
 use Rattle.tag_parse.specs.Header.{read_header}
 use Rattle.tag_parse.specs.declared.types.EBMLSize.{EBMLSize}
 use Rattle.tag_parse.specs.declared.types.EBMLSize.TheVariants.{Known, Unknown}
-use Rattle.tag_parse.specs.declared.types.ReadHeader.{ReadHeader}
-use Rattle.tag_parse.specs.declared.types.ReadHeader.TheVariants as header
 use Rattle.tag_parse.specs.declared.types.TagHeader.{TagHeader}
 use Rattle.decoder_rules.specs.Record.{opens, waits, no_end, implied, with_open, with_notes, settled_to}
 use Rattle.decoder_rules.specs.OneCall.{good_open, good_end, check_record10to12, check10to12, is_full, step3, close_or_fault, step6, refusal6, step7, noted, step8, reaches, fits_inside, step9, valid_header, step10}
@@ -29,13 +27,17 @@ use Rattle.decoder_rules.specs.Deciding.{plain, steps10_11, steps8_11, steps6_11
 use Rattle.decoder_rules.specs.declared.types.Action.{Action}
 use Rattle.decoder_rules.specs.declared.types.Action.TheVariants as act
 use Rattle.decoder_rules.specs.declared.types.DecodeError.TheVariants as error
-use Rattle.decoder_rules.specs.declared.types.Note.{Note}
-use Rattle.decoder_rules.specs.declared.types.Note.TheVariants.{NoNote, Settle}
 use Rattle.decoder_rules.specs.declared.types.TagDecoder.{TagDecoder}
 use Rattle.decoder_rules.specs.declared.types.WaitingEnd.{WaitingEnd}
 use Rattle.decoder_rules.proofs.GoodState.{good_open_lem, is_good_open, GoodState, good_state_lem, is_good_state}
 use Rattle.decoder_rules.proofs.MoveEffects.{Arrays, opens-length, waits-length, settled_opens}
 use Rattle.restarts.specs.Comparing.{Extent, wholly, but_counts, seen_count, seen_master, seen_end, seen_masters, seen_ends, Sound, seen_record}
+use Rattle.std.specs.Prelude.{Err, None, Ok, Option, Result, Some}
+use Rattle.decoder_rules.specs.declared.types.DecodeError.{DecodeError}
+use Rattle.tag_parse.specs.declared.types.ParseError.{ParseError}
+use Rattle.table.specs.declared.types.Path.{Path}
+use Rattle.tools.specs.declared.status.Status.{Status}
+use Rattle.tools.specs.declared.status.Status.TheVariants as status
 
 -- ---- the record that is compared
 
@@ -75,10 +77,10 @@ ends_wholly [] = refl
 ends_wholly (e ∷ l) = ap (λ (k : List WaitingEnd). e ∷ k) (ends_wholly l)
 
 -- with the note a record is as long as its counts say
-pub noted_full : (ps : List ℕ) (d : TagDecoder) → Full d → (n : Note) → Full (noted ps d n)
+pub noted_full : (ps : List ℕ) (d : TagDecoder) → Full d → (n : Option Path) → Full (noted ps d n)
 unfolding noted settled_to with_open with_notes
-noted_full ps d k NoNote = k
-noted_full ps d k (Settle path) =
+noted_full ps d k None = k
+noted_full ps d k (Some path) =
     let parts = parts_in (parts_of ps) path in
     record { masters = ap length (settled_opens d parts) ∙ length-map parts implied; ends = k.ends }
 
@@ -219,7 +221,7 @@ module _ (x : Extent) where
 
     close_seen : (n : ℕ) → close_or_fault t Seen n ≡ close_or_fault t d n
     unfolding close_or_fault
-    close_seen n = ap (λ (b : Bool). cond b (act.Close n) (act.Refuse error.NotAMaster)) (masters_seen n)
+    close_seen n = ap (λ (b : Bool). cond b (Ok (act.Close n)) (Err error.NotAMaster)) (masters_seen n)
 
     fits_seen : (n : ℕ) → fits_inside Seen n ≡ fits_inside d n
     unfolding fits_inside seen_record
@@ -279,15 +281,15 @@ module _ (x : Extent) where
         ∙ sym (seen_each (settled_to d parts))
 
   -- what is compared with the note is the note on what is compared
-  pub noted-seen : (ps : List ℕ) (d : TagDecoder) (n : Note) → noted ps (seen_record x d) n ≡ seen_record x (noted ps d n)
+  pub noted-seen : (ps : List ℕ) (d : TagDecoder) (n : Option Path) → noted ps (seen_record x d) n ≡ seen_record x (noted ps d n)
   unfolding noted
-  noted-seen ps d NoNote = refl
-  noted-seen ps d (Settle path) = settled_seen d (parts_in (parts_of ps) path)
+  noted-seen ps d None = refl
+  noted-seen ps d (Some path) = settled_seen d (parts_in (parts_of ps) path)
 
   -- ---- the decision
 
   module _ (es ps : List ℕ) (d : TagDecoder) (k : Sound d) where
-    after_note_seen : (n : Note) (h : TagHeader) (s : List ℕ) → steps8_11 (table_of es ps) (noted ps (seen_record x d) n) h s ≡ steps8_11 (table_of es ps) (noted ps d n) h s
+    after_note_seen : (n : Option Path) (h : TagHeader) (s : List ℕ) → steps8_11 (table_of es ps) (noted ps (seen_record x d) n) h s ≡ steps8_11 (table_of es ps) (noted ps d n) h s
     after_note_seen n h s =
         ap (λ (f : TagDecoder). steps8_11 (table_of es ps) f h s) (noted-seen ps d n) ∙ steps8_seen (table_of es ps) (noted ps d n) (noted_full ps d (sound_full d k) n) h s
 
@@ -295,13 +297,13 @@ module _ (x : Extent) where
     unfolding steps6_11 seen_record
     steps6_seen h s =
         let n = step7 (table_of es ps) d h in
-        ap (λ (a : Action). cond (step6 d h) (record { note = n; action = a }) (plain (act.Refuse (refusal6 d h)))) (after_note_seen n h s)
+        ap (λ (a : Result Action DecodeError). cond (step6 d h) (record { note = n; action = a }) (plain (Err (refusal6 d h)))) (after_note_seen n h s)
 
-    step5-seen : (s : List ℕ) (r : ReadHeader) → step5 ps (table_of es ps) (seen_record x d) s r ≡ step5 ps (table_of es ps) d s r
+    step5-seen : (s : List ℕ) (r : Result (Status TagHeader) ParseError) → step5 ps (table_of es ps) (seen_record x d) s r ≡ step5 ps (table_of es ps) d s r
     unfolding step5
-    step5-seen s (header.NeedMore missing) = refl
-    step5-seen s (header.Refused e) = refl
-    step5-seen s (header.Header h) = steps6_seen h s
+    step5-seen s (Ok (status.NeedMore missing)) = refl
+    step5-seen s (Err e) = refl
+    step5-seen s (Ok (status.Complete h)) = steps6_seen h s
 
     steps2_seen : (s : List ℕ) → steps2_11 ps (table_of es ps) (seen_record x d) s ≡ steps2_11 ps (table_of es ps) d s
     unfolding steps2_11 steps4_11

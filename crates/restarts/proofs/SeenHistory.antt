@@ -16,8 +16,6 @@ use Rattle.decoder_rules.specs.FirstPlace.{settle_at}
 use Rattle.decoder_rules.specs.declared.types.Answer.{Answer}
 use Rattle.decoder_rules.specs.declared.types.Answer.TheVariants as answer
 use Rattle.decoder_rules.specs.declared.types.Event.TheVariants as event
-use Rattle.decoder_rules.specs.declared.types.Note.{Note}
-use Rattle.decoder_rules.specs.declared.types.Note.TheVariants.{NoNote}
 use Rattle.decoder_rules.specs.declared.types.WaitingEnd.{WaitingEnd}
 use Rattle.guarantees.specs.Calls.{lent, Response, answered, searched, silent, Step}
 use Rattle.guarantees.specs.Settling.{mode_after, is_strict_after, implied_by, comes_unread, seen_note, has_settled}
@@ -25,28 +23,31 @@ use Rattle.guarantees.specs.Counts.{child_of_first, counts_by, with_implied, chi
 use Rattle.guarantees.proofs.Counted.{EndCountsIn}
 use Rattle.restarts.specs.Comparing.{Extent, seen_end, seen_answer, seen_response, seen_step}
 use Rattle.restarts.specs.Since.{parents_since, counts_on_from, later_by, later_masters}
+use Rattle.std.specs.Prelude.{Err, None, Ok, Option, Result}
+use Rattle.table.specs.declared.types.Path.{Path}
+use Rattle.decoder_rules.specs.declared.types.Refusal.{Refusal}
 
 -- ---- what is told
 
 module _ (x : Extent) where
-  refusal_seen : (a : Answer) → answer_refusal (seen_answer x a) ≡ answer_refusal a
-  refusal_seen (answer.Event e) = refl
-  refusal_seen (answer.NeedMore missing) = refl
-  refusal_seen answer.Finished = refl
-  refusal_seen (answer.Refused r) = refl
+  refusal_seen : (a : Result Answer Refusal) → answer_refusal (seen_answer x a) ≡ answer_refusal a
+  refusal_seen (Ok (answer.Event e)) = refl
+  refusal_seen (Ok (answer.NeedMore missing)) = refl
+  refusal_seen (Ok answer.Finished) = refl
+  refusal_seen (Err r) = refl
 
   note_seen : (strict : Bool) (t : List Entry) (s : List ℕ) (r : Response) → seen_note strict t s (seen_response x r) ≡ seen_note strict t s r
-  note_seen strict t s (answered a n) = ap (λ (k : ℕ). cond (comes_unread k) NoNote (settle_at strict t s)) (refusal_seen a)
+  note_seen strict t s (answered a n) = ap (λ (k : ℕ). cond (comes_unread k) None (settle_at strict t s)) (refusal_seen a)
   note_seen strict t s (searched a n) = refl
   note_seen strict t s silent = refl
 
   counts_by_lem : (r : Response) (l : List ℕ) → counts_by (seen_response x r) l ≡ counts_by r l
-  counts_by_lem (answered (answer.Event (event.Start y o)) n) l = refl
-  counts_by_lem (answered (answer.Event (event.End end)) n) l = refl
-  counts_by_lem (answered (answer.Event (event.Data y o v)) n) l = refl
-  counts_by_lem (answered (answer.NeedMore missing) n) l = refl
-  counts_by_lem (answered answer.Finished n) l = refl
-  counts_by_lem (answered (answer.Refused e) n) l = refl
+  counts_by_lem (answered (Ok (answer.Event (event.Start y o))) n) l = refl
+  counts_by_lem (answered (Ok (answer.Event (event.End end))) n) l = refl
+  counts_by_lem (answered (Ok (answer.Event (event.Data y o v))) n) l = refl
+  counts_by_lem (answered (Ok (answer.NeedMore missing)) n) l = refl
+  counts_by_lem (answered (Ok answer.Finished) n) l = refl
+  counts_by_lem (answered (Err e) n) l = refl
   counts_by_lem (searched a n) l = refl
   counts_by_lem silent l = refl
 
@@ -68,7 +69,7 @@ module _ (x : Extent) where
     -- the parents that a call implied
     pub parents_seen : (h : List Step) (s : List ℕ) (r : Response) → parents_since ps t before (map (seen_step x) h) s (seen_response x r) ≡ parents_since ps t before h s r
     parents_seen h s r =
-        rw (settled_seen h, strict_seen h) (ap (λ (n : Note). cond (has_settled t (h ++ before)) [] (implied_by ps n)) (note_seen (is_strict_after (h ++ before)) t s r))
+        rw (settled_seen h, strict_seen h) (ap (λ (n : Option Path). cond (has_settled t (h ++ before)) [] (implied_by ps n)) (note_seen (is_strict_after (h ++ before)) t s r))
 
     -- the counts
     pub counts-seen : (counts : List ℕ) (h : List Step) → counts_on_from ps t before counts (map (seen_step x) h) ≡ counts_on_from ps t before counts h
@@ -111,12 +112,12 @@ pub agree_implied : (parents : List ℕ) (n : ℕ) (l m : List ℕ) → Agree n 
 agree_implied parents n l m e = front_implied parents n l ∙ ap (λ (k : List ℕ). map (λ y. 0) parents ++ k) e ∙ sym (front_implied parents n m)
 
 agree_told : (r : Response) (n : ℕ) (l m : List ℕ) → Agree n l m → Agree (later_by r n) (counts_by r l) (counts_by r m)
-agree_told (answered (answer.Event (event.Start y o)) k) n l m e = rw add-one (ap (λ (j : List ℕ). 0 ∷ j) (agree_child n l m e))
-agree_told (answered (answer.Event (event.End end)) k) n l m e = take_rest n l ∙ ap (drop 1) e ∙ sym (take_rest n m)
-agree_told (answered (answer.Event (event.Data y o v)) k) n l m e = agree_child n l m e
-agree_told (answered (answer.NeedMore missing) k) n l m e = e
-agree_told (answered answer.Finished k) n l m e = e
-agree_told (answered (answer.Refused r) k) n l m e = e
+agree_told (answered (Ok (answer.Event (event.Start y o))) k) n l m e = rw add-one (ap (λ (j : List ℕ). 0 ∷ j) (agree_child n l m e))
+agree_told (answered (Ok (answer.Event (event.End end))) k) n l m e = take_rest n l ∙ ap (drop 1) e ∙ sym (take_rest n m)
+agree_told (answered (Ok (answer.Event (event.Data y o v))) k) n l m e = agree_child n l m e
+agree_told (answered (Ok (answer.NeedMore missing)) k) n l m e = e
+agree_told (answered (Ok answer.Finished) k) n l m e = e
+agree_told (answered (Err r) k) n l m e = e
 agree_told (searched a k) n l m e = e
 agree_told silent n l m e = e
 
@@ -140,34 +141,34 @@ counted_end n e = record { id = e.id; offset = e.offset; count = n }
 
 -- what is told, with this count where it is an End
 abbrev recounted : ℕ → Response → Response
-recounted n (answered (answer.Event (event.Start y o)) k) = answered (answer.Event (event.Start y o)) k
-recounted n (answered (answer.Event (event.End end)) k) = answered (answer.Event (event.End (counted_end n end))) k
-recounted n (answered (answer.Event (event.Data y o v)) k) = answered (answer.Event (event.Data y o v)) k
-recounted n (answered (answer.NeedMore missing) k) = answered (answer.NeedMore missing) k
-recounted n (answered answer.Finished k) = answered answer.Finished k
-recounted n (answered (answer.Refused e) k) = answered (answer.Refused e) k
+recounted n (answered (Ok (answer.Event (event.Start y o))) k) = answered (Ok (answer.Event (event.Start y o))) k
+recounted n (answered (Ok (answer.Event (event.End end))) k) = answered (Ok (answer.Event (event.End (counted_end n end)))) k
+recounted n (answered (Ok (answer.Event (event.Data y o v))) k) = answered (Ok (answer.Event (event.Data y o v))) k
+recounted n (answered (Ok (answer.NeedMore missing)) k) = answered (Ok (answer.NeedMore missing)) k
+recounted n (answered (Ok answer.Finished) k) = answered (Ok answer.Finished) k
+recounted n (answered (Err e) k) = answered (Err e) k
 recounted n (searched a k) = searched a k
 recounted n silent = silent
 
 recounted_seen : (x : Extent) (n : ℕ) (r : Response) → recounted n (seen_response x r) ≡ recounted n r
 unfolding seen_end
-recounted_seen x n (answered (answer.Event (event.Start y o)) k) = refl
-recounted_seen x n (answered (answer.Event (event.End end)) k) = refl
-recounted_seen x n (answered (answer.Event (event.Data y o v)) k) = refl
-recounted_seen x n (answered (answer.NeedMore missing) k) = refl
-recounted_seen x n (answered answer.Finished k) = refl
-recounted_seen x n (answered (answer.Refused e) k) = refl
+recounted_seen x n (answered (Ok (answer.Event (event.Start y o))) k) = refl
+recounted_seen x n (answered (Ok (answer.Event (event.End end))) k) = refl
+recounted_seen x n (answered (Ok (answer.Event (event.Data y o v))) k) = refl
+recounted_seen x n (answered (Ok (answer.NeedMore missing)) k) = refl
+recounted_seen x n (answered (Ok answer.Finished) k) = refl
+recounted_seen x n (answered (Err e) k) = refl
 recounted_seen x n (searched a k) = refl
 recounted_seen x n silent = refl
 
 recounted_same : (l : List ℕ) (r : Response) → EndCountsIn r l → recounted (get_or l 0 0) r ≡ r
-recounted_same l (answered (answer.Event (event.Start y o)) k) e = refl
-recounted_same l (answered (answer.Event (event.End end)) k) e =
-    ap (λ (n : ℕ). answered (answer.Event (event.End (counted_end n end))) k) (sym e)
-recounted_same l (answered (answer.Event (event.Data y o v)) k) e = refl
-recounted_same l (answered (answer.NeedMore missing) k) e = refl
-recounted_same l (answered answer.Finished k) e = refl
-recounted_same l (answered (answer.Refused r) k) e = refl
+recounted_same l (answered (Ok (answer.Event (event.Start y o))) k) e = refl
+recounted_same l (answered (Ok (answer.Event (event.End end))) k) e =
+    ap (λ (n : ℕ). answered (Ok (answer.Event (event.End (counted_end n end)))) k) (sym e)
+recounted_same l (answered (Ok (answer.Event (event.Data y o v))) k) e = refl
+recounted_same l (answered (Ok (answer.NeedMore missing)) k) e = refl
+recounted_same l (answered (Ok answer.Finished) k) e = refl
+recounted_same l (answered (Err r) k) e = refl
 recounted_same l (searched a k) e = refl
 recounted_same l silent e = refl
 

@@ -27,6 +27,8 @@ use Rattle.decoder_move.proofs.DecisionApplies.{hands_out, closes, starts as sta
 use Rattle.restarts.specs.Comparing.{Extent, wholly, but_counts, seen_count, seen_master, seen_end, Sound, seen_record, seen_answer}
 use Rattle.restarts.proofs.SeenDecision.{Full, sound_arrays, sound_good, is_sound, sound_full, count_none, built, built_same, seen_each, seen-opens, seen-waits, good_seen}
 use Rattle.restarts.proofs.SoundCalls.{TakesSome, notes_sound, counted_sound}
+use Rattle.std.specs.Prelude.{Err, Ok, Result}
+use Rattle.decoder_rules.specs.declared.types.DecodeError.{DecodeError}
 
 module _ (x : Extent) where
   abbrev f : OpenTag → OpenTag
@@ -267,7 +269,7 @@ module _ (x : Extent) where
   on_seen d k q h l = counted-seen x (at_position d q) (notes_sound d k q d.settled d.finished h l)
 
   module _ (d : TagDecoder) (k : Sound d) (n : ℕ) where
-    start_seen : (y : ℕ) (z : EBMLSize) (len : ℕ) → ActionApplies d n (act.Start y z len) → TakesSome (act.Start y z len)
+    start_seen : (y : ℕ) (z : EBMLSize) (len : ℕ) → ActionApplies d n (Ok (act.Start y z len)) → TakesSome (Ok (act.Start y z len))
         → seen_record x (opened (counted (at_position (seen_record x d) (d.position + len))) (master_at y z d.position len))
         ≡ seen_record x (opened (counted (at_position d (d.position + len))) (master_at y z d.position len))
     start_seen y z len fits some =
@@ -280,20 +282,20 @@ module _ (x : Extent) where
         (unfold counted with_open with_notes in room.0) (unfold counted with_open with_notes seen_record in room.0) (on_seen d k q (omega arith) room.1)
 
     -- a move answers and leaves the same, as far as it is compared
-    pub move_seen : (a : Action) → ActionApplies d n a → TakesSome a → seen_decoded x (move (seen_record x d) a) ≡ seen_decoded x (move d a)
-    move_seen (act.Refuse e) fits some = unfold move seen_record in ap (λ (s : TagDecoder). gives (answer.Refused (record { error = e; place = d.position })) 0 s) (seen_twice x d k)
-    move_seen (act.NeedMore missing) fits some = unfold move in ap (λ (s : TagDecoder). gives (answer.NeedMore missing) 0 s) (seen_twice x d k)
-    move_seen act.Finish fits some = unfold move in ap (λ (s : TagDecoder). gives answer.Finished 0 s) (seen_twice x d k)
-    move_seen act.HandOut fits some =
+    pub move_seen : (a : Result Action DecodeError) → ActionApplies d n a → TakesSome a → seen_decoded x (move (seen_record x d) a) ≡ seen_decoded x (move d a)
+    move_seen (Err e) fits some = unfold move seen_record in ap (λ (s : TagDecoder). gives (Err (record { error = e; place = d.position })) 0 s) (seen_twice x d k)
+    move_seen (Ok (act.NeedMore missing)) fits some = unfold move in ap (λ (s : TagDecoder). gives (Ok (answer.NeedMore missing)) 0 s) (seen_twice x d k)
+    move_seen (Ok act.Finish) fits some = unfold move in ap (λ (s : TagDecoder). gives (Ok answer.Finished) 0 s) (seen_twice x d k)
+    move_seen (Ok act.HandOut) fits some =
         unfold move in
-        ap (λ (end : WaitingEnd). gives (answer.Event (event.End end)) 0 (seen_record x (handed_out (seen_record x d)))) (first_seen x d k (hands_out d n fits))
-        ∙ ap (λ (s : TagDecoder). gives (answer.Event (event.End (seen_end x (get_or d.waiting 0 no_end)))) 0 s) (handed_seen x d k)
-    move_seen (act.Close i) fits some =
+        ap (λ (end : WaitingEnd). gives (Ok (answer.Event (event.End end))) 0 (seen_record x (handed_out (seen_record x d)))) (first_seen x d k (hands_out d n fits))
+        ∙ ap (λ (s : TagDecoder). gives (Ok (answer.Event (event.End (seen_end x (get_or d.waiting 0 no_end))))) 0 s) (handed_seen x d k)
+    move_seen (Ok (act.Close i)) fits some =
         let less : i ≤ d.open_count = omega (arith, (closes d n i fits).0) in
         unfold move in
-        ap (λ (end : WaitingEnd). gives (answer.Event (event.End end)) 0 (seen_record x (closed_to (seen_record x d) i))) (closed_first x d k i)
-        ∙ ap (λ (s : TagDecoder). gives (answer.Event (event.End (seen_end x (get_or (ends_from d i) 0 no_end)))) 0 s) (closed_seen x d k i less)
-    move_seen (act.Start y z len) fits some =
-        unfold move seen_record in ap (λ (s : TagDecoder). gives (answer.Event (event.Start y d.position)) len s) (start_seen y z len fits some)
-    move_seen (act.Data y v m) fits some =
-        unfold move seen_record in ap (λ (s : TagDecoder). gives (answer.Event (event.Data y d.position v)) m s) (on_seen d k (d.position + m) (omega arith) (passes_on d n y v m fits))
+        ap (λ (end : WaitingEnd). gives (Ok (answer.Event (event.End end))) 0 (seen_record x (closed_to (seen_record x d) i))) (closed_first x d k i)
+        ∙ ap (λ (s : TagDecoder). gives (Ok (answer.Event (event.End (seen_end x (get_or (ends_from d i) 0 no_end))))) 0 s) (closed_seen x d k i less)
+    move_seen (Ok (act.Start y z len)) fits some =
+        unfold move seen_record in ap (λ (s : TagDecoder). gives (Ok (answer.Event (event.Start y d.position))) len s) (start_seen y z len fits some)
+    move_seen (Ok (act.Data y v m)) fits some =
+        unfold move seen_record in ap (λ (s : TagDecoder). gives (Ok (answer.Event (event.Data y d.position v))) m s) (on_seen d k (d.position + m) (omega arith) (passes_on d n y v m fits))

@@ -12,7 +12,6 @@ use Rattle.table.specs.Table.{Entry, table_of, parts_of, parts_in}
 use Rattle.tag_parse.specs.Header.{read_header}
 use Rattle.tag_parse.specs.declared.types.EBMLSize.{EBMLSize}
 use Rattle.tag_parse.specs.declared.types.EBMLSize.TheVariants.{Known, Unknown}
-use Rattle.tag_parse.specs.declared.types.ReadHeader.TheVariants as header
 use Rattle.tag_parse.specs.declared.types.TagHeader.{TagHeader}
 use Rattle.tag_parse.proofs.Headers.{header_sound, header_long, known_small}
 use Rattle.decoder_rules.specs.Record.{farthest, opens, with_settings, with_open, with_notes, at_position, counted, opened, closed_to, handed_out, with_sizes_grown}
@@ -24,14 +23,8 @@ use Rattle.decoder_rules.specs.FirstPlace.{record_on, note_before, Standing, Inc
 use Rattle.decoder_rules.specs.Settings.{limited_to}
 use Rattle.decoder_rules.specs.declared.types.Action.{Action}
 use Rattle.decoder_rules.specs.declared.types.Action.TheVariants as act
-use Rattle.decoder_rules.specs.declared.types.Check.{Check}
-use Rattle.decoder_rules.specs.declared.types.Check.TheVariants.{Pass, Fail}
 use Rattle.decoder_rules.specs.declared.types.Decision.{Decision}
 use Rattle.decoder_rules.specs.declared.types.Decoded.{Decoded}
-use Rattle.decoder_rules.specs.declared.types.Note.{Note}
-use Rattle.decoder_rules.specs.declared.types.Note.TheVariants.{NoNote, Settle}
-use Rattle.decoder_rules.specs.declared.types.Optional.{Optional}
-use Rattle.decoder_rules.specs.declared.types.Optional.TheVariants.{Nothing, Number}
 use Rattle.decoder_rules.specs.declared.types.Settings.{Settings}
 use Rattle.decoder_rules.specs.declared.types.TagDecoder.{TagDecoder}
 use Rattle.decoder_rules.proofs.Counting.{counted_arrays, counted_good}
@@ -52,29 +45,33 @@ use Rattle.guarantees.proofs.Decided.{Small}
 use Rattle.guarantees.proofs.Steps.{open_good}
 use Rattle.restarts.specs.Comparing.{Sound}
 use Rattle.restarts.proofs.SeenDecision.{sound_arrays, sound_good, is_sound}
+use Rattle.std.specs.Prelude.{Err, None, Ok, Option, Result, Some, ⊤}
+use Rattle.decoder_rules.specs.declared.types.DecodeError.{DecodeError}
+use Rattle.table.specs.declared.types.Path.{Path}
+use Rattle.tools.specs.declared.status.Status.TheVariants as status
 
 -- ---- what a Start and a Data take
 
 -- a Start takes some byte, and a known size is below 2^56; a Data takes some byte
-abbrev pub TakesSome : Action → Type 0
-TakesSome (act.Refuse e) = Unit {0}
-TakesSome (act.NeedMore missing) = Unit {0}
-TakesSome act.Finish = Unit {0}
-TakesSome act.HandOut = Unit {0}
-TakesSome (act.Close k) = Unit {0}
-TakesSome (act.Start x z len) = (0 < len) × Small z
-TakesSome (act.Data x v n) = 0 < n
+abbrev pub TakesSome : Result Action DecodeError → Type 0
+TakesSome (Err e) = Unit {0}
+TakesSome (Ok (act.NeedMore missing)) = Unit {0}
+TakesSome (Ok act.Finish) = Unit {0}
+TakesSome (Ok act.HandOut) = Unit {0}
+TakesSome (Ok (act.Close k)) = Unit {0}
+TakesSome (Ok (act.Start x z len)) = (0 < len) × Small z
+TakesSome (Ok (act.Data x v n)) = 0 < n
 
-module _ (t : List Entry) (s : List ℕ) (byte : Octets s) (h : TagHeader) (read : read_header t s ≡ header.Header h) where
+module _ (t : List Entry) (s : List ℕ) (byte : Octets s) (h : TagHeader) (read : read_header t s ≡ Ok (status.Complete h)) where
   small_size : (z : EBMLSize) → h.size ≡ z → Small z
   small_size Unknown e = tt
   small_size (Known n) e = known_small n (header_sound t s h byte read) e
 
-  closing_takes : {d : TagDecoder} {k : ℕ} {a : Action} → Closing t d k a → TakesSome a
+  closing_takes : {d : TagDecoder} {k : ℕ} {a : Result Action DecodeError} → Closing t d k a → TakesSome a
   closing_takes (exit.closes e) = tt
   closing_takes (exit.no_master_lem e) = tt
 
-  header_takes : {d : TagDecoder} {a : Action} → HeaderExit t d h s a → TakesSome a
+  header_takes : {d : TagDecoder} {a : Result Action DecodeError} → HeaderExit t d h s a → TakesSome a
   header_takes (exit.misplaced p) = tt
   header_takes (exit.oversized m p z f) = tt
   header_takes (exit.too_large m p z f g) = tt
@@ -88,7 +85,7 @@ module _ (t : List Entry) (s : List ℕ) (byte : Octets s) (h : TagHeader) (read
   header_takes (exit.holds m v has f q) = omega (arith, header_long (header_sound t s h byte read))
 
 module _ (es ps : List ℕ) (d : TagDecoder) (s : List ℕ) (byte : Octets s) where
-  full_takes : {k : ℕ} {a : Action} → Closing (table_of es ps) d k a → TakesSome a
+  full_takes : {k : ℕ} {a : Result Action DecodeError} → Closing (table_of es ps) d k a → TakesSome a
   full_takes (exit.closes e) = tt
   full_takes (exit.no_master_lem e) = tt
 
@@ -122,13 +119,13 @@ module _ (d : TagDecoder) (k : Sound d) where
   pub notes_sound : (p : ℕ) (s f : Bool) → d.position ≤ p → p ≤ farthest → Sound (with_notes d p s f)
   notes_sound p s f h l = is_sound (with_notes d p s f) (with_notes_arrays d arrays p s f) (with_notes_good d good p s f h l)
 
-  noted_arrays : (ps : List ℕ) (n : Note) → NoteApplies ps n → Arrays (noted ps d n)
+  noted_arrays : (ps : List ℕ) (n : Option Path) → NoteApplies ps n → Arrays (noted ps d n)
   unfolding noted
-  noted_arrays ps NoNote f = arrays
-  noted_arrays ps (Settle path) f = settled_arrays d arrays (parts_in (parts_of ps) path) (note_settles ps path f)
+  noted_arrays ps None f = arrays
+  noted_arrays ps (Some path) f = settled_arrays d arrays (parts_in (parts_of ps) path) (note_settles ps path f)
 
   -- with a note that applies
-  pub noted_sound : (ps : List ℕ) (n : Note) → NoteApplies ps n → Sound (noted ps d n)
+  pub noted_sound : (ps : List ℕ) (n : Option Path) → NoteApplies ps n → Sound (noted ps d n)
   noted_sound ps n f = is_sound (noted ps d n) (noted_arrays ps n f) (noted_good ps d n good f)
 
   closed_sound : (n : ℕ) → n ≤ d.open_count → Sound (closed_to d n)
@@ -139,20 +136,20 @@ module _ (d : TagDecoder) (k : Sound d) where
   counted_sound q h l =
       is_sound (counted (at_position d q)) (counted_arrays (at_position d q) (with_notes_arrays d arrays q d.settled d.finished)) (counted_good d good arrays q h l)
 
-move_sound : (d : TagDecoder) → Sound d → (n : ℕ) (a : Action) → ActionApplies d n a → TakesSome a → Sound (move d a).state
+move_sound : (d : TagDecoder) → Sound d → (n : ℕ) (a : Result Action DecodeError) → ActionApplies d n a → TakesSome a → Sound (move d a).state
 unfolding move counted with_open with_notes
-move_sound d k n (act.Refuse e) f g = k
-move_sound d k n (act.NeedMore missing) f g = k
-move_sound d k n act.Finish f g = k
-move_sound d k n act.HandOut f g = is_sound (handed_out d) (handed_arrays d (sound_arrays d k)) (handed_good d (sound_good d k) (sound_arrays d k))
-move_sound d k n (act.Close i) f g = let c = closes d n i f in closed_sound d k i (omega (arith, c.0))
-move_sound d k n (act.Start x z len) f g =
+move_sound d k n (Err e) f g = k
+move_sound d k n (Ok (act.NeedMore missing)) f g = k
+move_sound d k n (Ok act.Finish) f g = k
+move_sound d k n (Ok act.HandOut) f g = is_sound (handed_out d) (handed_arrays d (sound_arrays d k)) (handed_good d (sound_good d k) (sound_arrays d k))
+move_sound d k n (Ok (act.Close i)) f g = let c = closes d n i f in closed_sound d k i (omega (arith, c.0))
+move_sound d k n (Ok (act.Start x z len)) f g =
     let fits = start_fits d n x z len f in
     let e = counted (at_position d (d.position + len)) in
     let c : Sound e = counted_sound d k (d.position + len) (omega (arith, g.0)) fits.1 in
     let m = master_at x z d.position len in
     is_sound (opened e m) (opened_arrays e (sound_arrays e c) m) (opened_good e (sound_good e c) (sound_arrays e c) m fits.0 (open_good x d.position len z g.1))
-move_sound d k n (act.Data x v m) f g = counted_sound d k (d.position + m) (omega arith) (passes_on d n x v m f)
+move_sound d k n (Ok (act.Data x v m)) f g = counted_sound d k (d.position + m) (omega arith) (passes_on d n x v m f)
 
 -- ---- decode, and the end of input
 
@@ -211,18 +208,18 @@ module _ (es ps : List ℕ) (d : TagDecoder) (k : Sound d) (s : List ℕ) (p : P
 recover_sound : (es ps : List ℕ) (d : TagDecoder) → Sound d → (s : List ℕ) → Sound (try_recover es ps d s).state
 recover_sound es ps d k s = go (check_record10to12 es ps d (length s)) refl
   where
-    go : (c : Check) → check_record10to12 es ps d (length s) ≡ c → Sound (try_recover es ps d s).state
-    go Pass e =
+    go : (c : Result ⊤ DecodeError) → check_record10to12 es ps d (length s) ≡ c → Sound (try_recover es ps d s).state
+    go (Ok _) e =
         let t = table_of es ps in
         let i = first_place ps t d s in
         rw (recovery_is_first es ps d s e) (standing_sound es ps d k s (passed12 es ps d (length s) e) (suc i) (stands_at ps t d s i) i (first_is_least es ps d s).within)
-    go (Fail x) e = unfold try_recover in rw e k
+    go (Err x) e = unfold try_recover in rw e k
 
 -- ---- any call
 
-limited_sound : (d : TagDecoder) → Sound d → (n : Optional) → Sound (limited_to d n)
-limited_sound d k Nothing = settings_sound d k _
-limited_sound d k (Number n) = settings_sound d k _
+limited_sound : (d : TagDecoder) → Sound d → (n : Option ℕ) → Sound (limited_to d n)
+limited_sound d k None = settings_sound d k _
+limited_sound d k (Some n) = settings_sound d k _
 
 -- a sound record is sound after any call
 pub next_sound : (es ps : List ℕ) (d : TagDecoder) → Sound d → (c : Call) → Octets (lent c) → Sound (next es ps d c)

@@ -19,8 +19,6 @@ use Rattle.decoder_rules.proofs.EmptyPlacesZero.{Clean}
 use Rattle.stored_decoder.specs.Words.{decoder_words, cleaned}
 use Rattle.stored_decoder.specs.Block.{block_length, Words64, block, store_out, store_as, restore_from}
 use Rattle.stored_decoder.specs.Layout1.{uncounted, uncounted_end, as_ported}
-use Rattle.stored_decoder.specs.declared.types.Acceptance.{Acceptance}
-use Rattle.stored_decoder.specs.declared.types.Acceptance.TheVariants.{Accepted}
 use Rattle.stored_decoder.specs.declared.types.Restored.{Restored}
 use Rattle.stored_decoder.proofs.Cleaned.{cleaned_same}
 use Rattle.stored_decoder.proofs.FromLayout1.{restore_layout1_lem}
@@ -31,19 +29,21 @@ use Rattle.restarts.specs.Restarts.{Turn, calling, restarting, calls_of, record_
 use Rattle.restarts.specs.Comparing.{but_counts, seen_master, seen_end, Sound, seen_record, without_counts}
 use Rattle.restarts.proofs.CountsSince.{read_tidy}
 use Rattle.restarts.proofs.RunsInParts.{sound_after}
+use Rattle.std.specs.Prelude.{Ok, Result, ⊤}
+use Rattle.stored_decoder.specs.declared.types.StoreError.{StoreError}
 
 module _ (es ps : List ℕ) (cs : List Call) (l : Lent cs) where
   -- it is stored as its block
-  stored_so : (b : List ℕ) → length b ≡ block_length → store_out (record_after es ps cs) b ≡ (Accepted, block (record_after es ps cs))
+  stored_so : (b : List ℕ) → length b ≡ block_length → store_out (record_after es ps cs) b ≡ (Ok tt, block (record_after es ps cs))
   unfolding store_as
   stored_so b n = cond_yes _ _ _ (eq-eqb (length b) block_length n) ∙ cond_yes _ _ _ (sound_after es ps cs l).good
 
   -- and restored from it, whatever the record was before
-  pub stored_after : Words64 (decoder_words (record_after es ps cs)) → (e : TagDecoder) → restore_from e (block (record_after es ps cs)) ≡ record { answer = Accepted; state = record_after es ps cs }
+  pub stored_after : Words64 (decoder_words (record_after es ps cs)) → (e : TagDecoder) → restore_from e (block (record_after es ps cs)) ≡ record { answer = Ok tt; state = record_after es ps cs }
   stored_after fit e =
       let k = tidy_after es ps cs l in
       let d = record_after es ps cs in
-      restore_store d k.arrays fit (sound_after es ps cs l).good e ∙ ap (λ (x : TagDecoder). record { answer = Accepted; state = x }) (cleaned_same d k.clean k.absent)
+      restore_store d k.arrays fit (sound_after es ps cs l).good e ∙ ap (λ (x : TagDecoder). record { answer = Ok tt; state = x }) (cleaned_same d k.clean k.absent)
 
 -- ---- any turns
 
@@ -59,11 +59,11 @@ module _ (es ps : List ℕ) where
     fits : Words64 (decoder_words (record_after es ps cs))
     fits = subst (λ (x : TagDecoder). Words64 (decoder_words x)) same fit
 
-    stored_as : store_out d b ≡ (Accepted, block (record_after es ps cs))
+    stored_as : store_out d b ≡ (Ok tt, block (record_after es ps cs))
     stored_as = ap (λ (x : TagDecoder). store_out x b) same ∙ stored_so es ps cs l b n
 
-    restored_as : restore_from e (store_out d b).1 ≡ record { answer = Accepted; state = record_after es ps cs }
-    restored_as = ap (λ (x : Acceptance × List ℕ). restore_from e x.1) stored_as ∙ stored_after es ps cs l fits e
+    restored_as : restore_from e (store_out d b).1 ≡ record { answer = Ok tt; state = record_after es ps cs }
+    restored_as = ap (λ (x : Result ⊤ StoreError × List ℕ). restore_from e x.1) stored_as ∙ stored_after es ps cs l fits e
 
   same_record : (ts : List Turn) → LentThrough es ps ts → record_through es ps ts ≡ record_after es ps (calls_of ts)
   unfolding calls_of LentThrough record_through record_after
@@ -84,7 +84,7 @@ module _ (es ps : List ℕ) where
   pub restarts_unseen : RestartsUnseen es ps
   unfolding LentThrough
   restarts_unseen = record {
-    stored = λ ts b e l. ap (λ (x : Acceptance × List ℕ). x.0) (stored_as (calls_of ts) (calls_lent ts l.2) b l.0 e (record_through es ps ts) (same_record ts l.2) l.1);
+    stored = λ ts b e l. ap (λ (x : Result ⊤ StoreError × List ℕ). x.0) (stored_as (calls_of ts) (calls_lent ts l.2) b l.0 e (record_through es ps ts) (same_record ts l.2) l.1);
     restored = λ ts b e l. ap (λ (r : Restored). r.answer) (restored_as (calls_of ts) (calls_lent ts l.2) b l.0 e (record_through es ps ts) (same_record ts l.2) l.1);
     same_record = same_record;
     same_history = same_history;
@@ -120,5 +120,5 @@ read_from_layout1 es ps = record {
       let k = tidy_after es ps cs l in
       let d = record_after es ps cs in
       let h = sound_after es ps cs l in
-      restore_layout1_lem d k.arrays fit h.good e ∙ ap (λ (x : TagDecoder). record { answer = Accepted; state = x }) (ported_cleaned d h k.clean k.absent ported);
+      restore_layout1_lem d k.arrays fit h.good e ∙ ap (λ (x : TagDecoder). record { answer = Ok tt; state = x }) (ported_cleaned d h k.clean k.absent ported);
 }

@@ -1,6 +1,6 @@
 -- Two records compared, wholly or but for the counts of children: what stands in the empty places is never asked. And
 -- what calls on them answer, compared as far.
-use Rattle.std.specs.Prelude.{ℕ, ◌≡◌, true, List, map, length}
+use Rattle.std.specs.Prelude.{ℕ, ◌≡◌, true, List, map, length, Err, Ok, Result}
 use Rattle.basics.specs.Lists.{filled}
 use Rattle.spec_util.specs.Walk.{most_open, no_tag}
 use Rattle.spec_util.specs.declared.types.OpenTag.{OpenTag}
@@ -13,6 +13,7 @@ use Rattle.decoder_rules.specs.declared.types.Event.TheVariants as event
 use Rattle.decoder_rules.specs.declared.types.TagDecoder.{TagDecoder}
 use Rattle.decoder_rules.specs.declared.types.WaitingEnd.{WaitingEnd}
 use Rattle.guarantees.specs.Calls.{Response, answered, searched, silent, Step}
+use Rattle.decoder_rules.specs.declared.types.Refusal.{Refusal}
 
 -- ---- how far
 
@@ -106,11 +107,11 @@ seen_event x (event.End end) = event.End (seen_end x end)
 seen_event x (event.Data id o v) = event.Data id o v
 
 -- an answer as far as it is compared
-abbrev pub seen_answer : Extent → Answer → Answer
-seen_answer x (answer.Event e) = answer.Event (seen_event x e)
-seen_answer x (answer.NeedMore missing) = answer.NeedMore missing
-seen_answer x answer.Finished = answer.Finished
-seen_answer x (answer.Refused r) = answer.Refused r
+abbrev pub seen_answer : Extent → Result Answer Refusal → Result Answer Refusal
+seen_answer x (Ok (answer.Event e)) = Ok (answer.Event (seen_event x e))
+seen_answer x (Ok (answer.NeedMore missing)) = Ok (answer.NeedMore missing)
+seen_answer x (Ok answer.Finished) = Ok answer.Finished
+seen_answer x (Err r) = Err r
 
 -- what any call tells, as far as it is compared
 abbrev pub seen_response : Extent → Response → Response

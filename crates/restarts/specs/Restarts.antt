@@ -1,13 +1,12 @@
 -- Document 02, CR 14, "Demand 3 reads the stored record's history": a run of a fresh decoder whose record is stored and
 -- restored, at any places and any number of times. A run stands latest first.
-use Rattle.std.specs.Prelude.{ℕ, ◌≡◌, false, List, [], ◌∷◌, length}
+use Rattle.std.specs.Prelude.{ℕ, ◌≡◌, false, List, [], ◌∷◌, length, Ok}
 use Rattle.tools.specs.Bytes.{Octets}
 use Rattle.decoder_rules.specs.Record.{fresh}
 use Rattle.decoder_rules.specs.declared.types.TagDecoder.{TagDecoder}
 use Rattle.stored_decoder.specs.Words.{decoder_words}
 use Rattle.stored_decoder.specs.Block.{block_length, Words64, bytes_of, store_out, restore_from}
 use Rattle.stored_decoder.specs.Layout1.{layout1_words}
-use Rattle.stored_decoder.specs.declared.types.Acceptance.TheVariants.{Accepted}
 use Rattle.guarantees.specs.Calls.{Call, lent, next, Step, step_of, record_after, history, Lent}
 use Rattle.restarts.specs.Comparing.{without_counts}
 
@@ -50,8 +49,8 @@ module _ (es ps : List ℕ) where
 -- what restarts change, with any words for a table
 pub record RestartsUnseen (es ps : List ℕ) : Type 0 where
   -- each of them succeeds: the record is stored, and restored
-  pub stored : (ts : List Turn) (b : List ℕ) (e : TagDecoder) → LentThrough es ps (restarting b e ∷ ts) → (store_out (record_through es ps ts) b).0 ≡ Accepted
-  pub restored : (ts : List Turn) (b : List ℕ) (e : TagDecoder) → LentThrough es ps (restarting b e ∷ ts) → (restore_from e (store_out (record_through es ps ts) b).1).answer ≡ Accepted
+  pub stored : (ts : List Turn) (b : List ℕ) (e : TagDecoder) → LentThrough es ps (restarting b e ∷ ts) → (store_out (record_through es ps ts) b).0 ≡ Ok tt
+  pub restored : (ts : List Turn) (b : List ℕ) (e : TagDecoder) → LentThrough es ps (restarting b e ∷ ts) → (restore_from e (store_out (record_through es ps ts) b).1).answer ≡ Ok tt
   -- a run with them leaves the record of the run without them
   pub same_record : (ts : List Turn) → LentThrough es ps ts → record_through es ps ts ≡ record_after es ps (calls_of ts)
   -- and has its history: so all that demand 3 says of that history and that record is said of it
@@ -63,4 +62,4 @@ pub record ReadFromLayout1 (es ps : List ℕ) : Type 0 where
   -- such a block gives the record with every count 0, whatever the record was before. What its calls then answer is
   -- `CountsAfterReading`
   pub reads : (cs : List Call) → Lent cs → (record_after es ps cs).settings.strict ≡ false → Words64 (layout1_words (record_after es ps cs))
-      → (e : TagDecoder) → restore_from e (bytes_of (layout1_words (record_after es ps cs))) ≡ record { answer = Accepted; state = without_counts (record_after es ps cs) }
+      → (e : TagDecoder) → restore_from e (bytes_of (layout1_words (record_after es ps cs))) ≡ record { answer = Ok tt; state = without_counts (record_after es ps cs) }

@@ -1,7 +1,7 @@
 -- Document 02, CR 14, of a record that is read back with every count 0: "for the masters then open and the Ends then
 -- waiting, demand 3's count is of the events handed out since that reading". What these words say of any calls before
 -- the reading and any after it. A history stands latest first.
-use Rattle.std.specs.Prelude.{ℕ, ◌+◌, ◌-◌, ◌<◌, ◌≡◌, List, [], ◌∷◌, ◌++◌, map, length, get_or}
+use Rattle.std.specs.Prelude.{ℕ, ◌+◌, ◌-◌, ◌<◌, ◌≡◌, List, [], ◌∷◌, ◌++◌, map, length, get_or, Err, Ok, Result}
 use Rattle.table.specs.Table.{Entry, table_of}
 use Rattle.decoder_rules.specs.declared.types.Answer.{Answer}
 use Rattle.decoder_rules.specs.declared.types.Answer.TheVariants as answer
@@ -15,6 +15,7 @@ use Rattle.guarantees.specs.Counts.{counts_by, with_implied, child_counts, count
 use Rattle.guarantees.specs.Promises.{last_response}
 use Rattle.restarts.specs.Comparing.{but_counts, without_counts, seen_step}
 use Rattle.restarts.specs.Runs.{record_from, history_from}
+use Rattle.decoder_rules.specs.declared.types.Refusal.{Refusal}
 
 -- ---- the masters that started since a reading
 
@@ -25,11 +26,11 @@ later_by_event (event.End end) n = n - 1
 later_by_event (event.Data x o v) n = n
 
 -- of the answers only an event changes how many there are
-abbrev pub later_by_answer : Answer → ℕ → ℕ
-later_by_answer (answer.Event e) n = later_by_event e n
-later_by_answer (answer.NeedMore missing) n = n
-later_by_answer answer.Finished n = n
-later_by_answer (answer.Refused r) n = n
+abbrev pub later_by_answer : Result Answer Refusal → ℕ → ℕ
+later_by_answer (Ok (answer.Event e)) n = later_by_event e n
+later_by_answer (Ok (answer.NeedMore missing)) n = n
+later_by_answer (Ok answer.Finished) n = n
+later_by_answer (Err r) n = n
 
 -- after any call
 abbrev pub later_by : Response → ℕ → ℕ
@@ -101,7 +102,7 @@ pub record CountsAfterReading (es ps : List ℕ) : Type 0 where
       → map (seen_step but_counts) (history_since es ps cs ds ++ history es ps cs) ≡ map (seen_step but_counts) (history es ps (ds ++ cs))
   -- an End carries the count, since the reading, of the master that it names, which is the first
   pub end_counts_since : (cs ds : List Call) (c : Call) → Lent (c ∷ (ds ++ cs)) → (end : WaitingEnd) (n : ℕ)
-      → response_since es ps cs ds c ≡ answered (answer.Event (event.End end)) n → end.count ≡ get_or (counts_since_at es ps cs ds c) 0 0
+      → response_since es ps cs ds c ≡ answered (Ok (answer.Event (event.End end))) n → end.count ≡ get_or (counts_since_at es ps cs ds c) 0 0
   -- the record holds these counts
   pub record-counts-since : (cs ds : List Call) → Lent (ds ++ cs)
       → counts_in (record_since es ps cs ds) ≡ child_counts_since ps (table_of es ps) (history es ps cs) (history_since es ps cs ds)

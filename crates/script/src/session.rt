@@ -1,30 +1,71 @@
-// What a line leaves for the lines after it.
+//! What a line of a script answers, and what it leaves for the lines after it.
 
-ghost use Rattle.std.specs.Prelude.{◌≡◌};
+ghost use Rattle.std.specs.Prelude.{◌≡◌, [], OnErr};
+ghost use Rattle.decoder_rules.specs.Record.{fresh};
 
 use decoder_rules::types::TagDecoder;
-use script_decoder::calls::first_decoder;
-use script_table::lending::{LentTable, empty_table};
+use script_decoder::calls::Call;
+use script_table::lending::LentTable;
+use script_text::answers::{BadLine, Line};
+use script_text::words::split_once;
+use tag_decoder::settings::new;
 
-// The lent table's measures, and the decoder.
-#[derive(Clone, Copy)]
+/// The lent table, and the decoder.
+#[derive(Drop)]
 pub struct Session {
     pub table: LentTable,
     pub decoder: TagDecoder,
 }
 
-// The session after a line, and how many bytes the line's answer has.
-#[derive(Clone, Copy)]
-pub struct Answered {
-    pub session: Session,
-    pub count: usize,
+impl Session {
+    /// Before the first line: the empty table, and a new decoder.
+    pub fn new() -> Session
+        ensures table { result.table ≡ ([], []) }
+        ensures decoder { result.decoder ≡ fresh }
+    {
+        Session {
+            table: LentTable::new(),
+            decoder: new(),
+        }
+    }
+
+    // The answer to a line that is neither empty nor a comment, added to `out`.
+    fn call(&mut self, line: &[u8], out: &mut Line) -> Result<(), BadLine>
+        ensures { OnErr result (self.new ≡ self.old) }
+    {
+        let (name, words) = match split_once(line, b' ') {
+            Some((name, words)) => (name, Some(words)),
+            None => (line, None),
+        };
+        if script_table::calls::is_call(name) {
+            script_table::calls::answer(line, &mut self.table, out)
+        } else if script_writer::calls::is_call(name) {
+            script_writer::calls::answer(line, &self.table, out)
+        } else if let Some(call) = Call::named(name) {
+            script_decoder::calls::answer(call, words, &self.table, &mut self.decoder, out)
+        } else {
+            script_numbers::answer(line, out)
+        }
+    }
+
+    /// Puts the answer to one line into `out`, in place of what is there: `BADLINE` where the line is no call, nothing
+    /// where it is empty or a comment.
+    pub fn answer(&mut self, line: &[u8], out: &mut Line)
+        ensures empty { line.now ≡ [] → (out.new ≡ []) × (self.new ≡ self.old) }
+    {
+        out.clear();
+        if matches!(line, [] | [b'#', ..]) {
+            return;
+        }
+        if self.call(line, out).is_err() {
+            out.clear();
+            write!(out, "{BadLine}");
+        }
+    }
 }
 
-// Before the first line: an empty table, and a new decoder.
-pub fn new_session() -> Session
-    ensures { (result.table.entries ≡ 0) × (result.table.parts ≡ 0) }
-{
-    let table = empty_table();
-    let decoder = first_decoder();
-    Session { table, decoder }
+impl Default for Session {
+    fn default() -> Session {
+        Session::new()
+    }
 }

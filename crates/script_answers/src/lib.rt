@@ -1,6 +1,5 @@
-// A decoder's answers and its record as lines of a script.
+//! A decoder's answers and its record as text of a script.
 #![tactic(auto)]
 
 pub mod answers;
 pub mod record;
-pub mod words;

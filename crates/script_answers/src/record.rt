@@ -1,217 +1,99 @@
-// `st`: the record as a line.
+//! The record, as `st` prints it.
 
-ghost use Rattle.std.specs.Prelude.{◌≤◌, length};
-
-use crate::words::{put_after, put_flag, put_id, put_named};
-use decoder_rules::types::{TagDecoder, WaitingEnd};
-use script_text::answers::{put, put_decimal, put_text};
+use decoder_rules::types::{Settings, TagDecoder, WaitingEnd};
 use spec_util::types::{MOST_OPEN, OpenTag};
+use std::fmt;
+use std::fmt::Display;
 
-// The two lists of a record: its open masters, and its Ends that wait.
+/// The record's settings and its state; the open masters `O` from the outermost and the Ends `W` that wait, the next
+/// first, and the counts `C` and `V` of their children; whether it reads strictly.
 #[derive(Clone, Copy)]
-pub enum ListKind {
-    Open,
-    Waiting,
+pub struct RecordText<'a>(pub &'a TagDecoder);
+
+impl Display for RecordText<'_> {
+    fn fmt<W: fmt::Write>(&self, f: &mut fmt::Formatter<W>) -> fmt::Result {
+        let record = self.0;
+        let open = &record.open[..record.open_count.min(MOST_OPEN)];
+        let waiting = &record.waiting[..record.waiting_count.min(MOST_OPEN)];
+        write!(f, "st {}", SettingsText(record.settings))?;
+        write!(f, " p={}", record.position)?;
+        write!(
+            f,
+            " s={} f={}",
+            u8::from(record.settled),
+            u8::from(record.finished)
+        )?;
+        write_list(f, "O", open, |master| OpenText(*master))?;
+        write_list(f, "W", waiting, |end| EndText(*end))?;
+        write_list(f, "C", open, |master| master.count)?;
+        write_list(f, "V", waiting, |end| end.count)?;
+        write!(f, " x={}", u8::from(record.settings.strict))
+    }
 }
 
-// What a list shows of each item: the item itself, or the count of its children.
+// The tests that are switched off, as a sum, and the greatest size, `-` for none.
 #[derive(Clone, Copy)]
-enum Shown {
-    Item,
-    Children,
-}
+struct SettingsText(Settings);
 
-fn bit(is_set: bool, value: u64) -> u64
-    requires { value ≤ 4 }
-    ensures { result ≤ value }
-{
-    if is_set { value } else { 0 }
-}
-
-// The tests that are switched off, as a sum.
-fn allowance(d: TagDecoder) -> u64 {
-    bit(d.settings.allow_ids, 1)
-        + bit(d.settings.allow_hierarchy, 2)
-        + bit(d.settings.allow_oversized, 4)
-}
-
-fn put_max(d: TagDecoder, out: &mut [u8], at: usize) -> usize
-    requires { at ≤ length out.old }
-    ensures { result ≤ length out.old }
-{
-    if d.settings.max_given {
-        return put_named(b" m=", d.settings.max_size, out, at);
-    }
-    put_text(b" m=-", out, at)
-}
-
-// A comma before all items but the first.
-fn put_comma(i: usize, out: &mut [u8], at: usize) -> usize
-    requires { at ≤ length out.old }
-    ensures { result ≤ length out.old }
-{
-    if 0 < i {
-        return put(b',', out, at);
-    }
-    at
-}
-
-fn put_size(m: OpenTag, out: &mut [u8], at: usize) -> usize
-    requires { at ≤ length out.old }
-    ensures { result ≤ length out.old }
-{
-    if m.known {
-        return put_after(b':', m.size, out, at);
-    }
-    put_text(b":u", out, at)
-}
-
-fn put_open(i: usize, m: OpenTag, out: &mut [u8], at: usize) -> usize
-    requires { at ≤ length out.old }
-    ensures { result ≤ length out.old }
-{
-    let after_comma = put_comma(i, out, at);
-    let after_id = put_id(m.id, out, after_comma);
-    let after_size = put_size(m, out, after_id);
-    let after_start = put_after(b':', m.tag_start, out, after_size);
-    put_after(b':', m.data_start, out, after_start)
-}
-
-fn put_waiting(i: usize, e: WaitingEnd, out: &mut [u8], at: usize) -> usize
-    requires { at ≤ length out.old }
-    ensures { result ≤ length out.old }
-{
-    let after_comma = put_comma(i, out, at);
-    let after_id = put_id(e.id, out, after_comma);
-    put_after(b':', e.offset, out, after_id)
-}
-
-fn put_children(i: usize, children: u64, out: &mut [u8], at: usize) -> usize
-    requires { at ≤ length out.old }
-    ensures { result ≤ length out.old }
-{
-    let next = put_comma(i, out, at);
-    put_decimal(children, out, next)
-}
-
-fn put_open_shown(shown: Shown, i: usize, m: OpenTag, out: &mut [u8], at: usize) -> usize
-    requires { at ≤ length out.old }
-    ensures { result ≤ length out.old }
-{
-    match shown {
-        Shown::Item => put_open(i, m, out, at),
-        Shown::Children => put_children(i, m.count, out, at),
-    }
-}
-
-fn put_waiting_shown(shown: Shown, i: usize, e: WaitingEnd, out: &mut [u8], at: usize) -> usize
-    requires { at ≤ length out.old }
-    ensures { result ≤ length out.old }
-{
-    match shown {
-        Shown::Item => put_waiting(i, e, out, at),
-        Shown::Children => put_children(i, e.count, out, at),
-    }
-}
-
-// How many items the list of this kind has.
-pub fn count_of(kind: ListKind, d: TagDecoder) -> usize {
-    match kind {
-        ListKind::Open => d.open_count,
-        ListKind::Waiting => d.waiting_count,
-    }
-}
-
-// What is shown of the item at `i`, where there is one.
-fn put_item(
-    kind: ListKind,
-    shown: Shown,
-    d: TagDecoder,
-    i: usize,
-    out: &mut [u8],
-    at: usize,
-) -> usize
-    requires { at ≤ length out.old }
-    ensures { result ≤ length out.old }
-{
-    if count_of(kind, d) <= i {
-        return at;
-    }
-    if MOST_OPEN <= i {
-        return at;
-    }
-    match kind {
-        ListKind::Open => {
-            let m = d.open[i];
-            put_open_shown(shown, i, m, out, at)
-        }
-        ListKind::Waiting => {
-            let e = d.waiting[i];
-            put_waiting_shown(shown, i, e, out, at)
+impl Display for SettingsText {
+    fn fmt<W: fmt::Write>(&self, f: &mut fmt::Formatter<W>) -> fmt::Result {
+        let settings = self.0;
+        let allowed = u8::from(settings.allow_ids)
+            + 2 * u8::from(settings.allow_hierarchy)
+            + 4 * u8::from(settings.allow_oversized);
+        if settings.max_given {
+            write!(f, "a={allowed} m={}", settings.max_size)
+        } else {
+            write!(f, "a={allowed} m=-")
         }
     }
 }
 
-fn put_items(kind: ListKind, shown: Shown, d: TagDecoder, out: &mut [u8], at: usize) -> usize
-    requires { at ≤ length out.old }
-    ensures { result ≤ length out.old }
-{
-    let mut to = at;
-    let mut i: usize = 0;
-    while i < MOST_OPEN {
-        to = put_item(kind, shown, d, i, out, to);
-        i += 1;
+// `ID:SIZE:START:DATA`, the size `u` where it is not known.
+#[derive(Clone, Copy)]
+struct OpenText(OpenTag);
+
+impl Display for OpenText {
+    fn fmt<W: fmt::Write>(&self, f: &mut fmt::Formatter<W>) -> fmt::Result {
+        let master = self.0;
+        write!(f, "{:X}:", master.id)?;
+        if master.known {
+            write!(f, "{}", master.size)?;
+        } else {
+            write!(f, "u")?;
+        }
+        write!(f, ":{}:{}", master.tag_start, master.data_start)
     }
-    to
 }
 
-// What is shown of the items after a name, `-` where there is none.
-fn put_list(
-    name: &[u8],
-    kind: ListKind,
-    shown: Shown,
-    d: TagDecoder,
-    out: &mut [u8],
-    at: usize,
-) -> usize
-    requires { at ≤ length out.old }
-    ensures { result ≤ length out.old }
-{
-    let next = put_text(name, out, at);
-    if count_of(kind, d) == 0 {
-        return put(b'-', out, next);
+// `ID:OFFSET`.
+#[derive(Clone, Copy)]
+struct EndText(WaitingEnd);
+
+impl Display for EndText {
+    fn fmt<W: fmt::Write>(&self, f: &mut fmt::Formatter<W>) -> fmt::Result {
+        write!(f, "{:X}:{}", self.0.id, self.0.offset)
     }
-    put_items(kind, shown, d, out, next)
 }
 
-// The counts of the open masters and of the waiting Ends.
-fn put_counts(d: TagDecoder, out: &mut [u8], at: usize) -> usize
-    requires { at ≤ length out.old }
-    ensures { result ≤ length out.old }
+// A field whose value is a list: what is shown of each item, with commas; `-` for none.
+fn write_list<W: fmt::Write, T, D: Display + Drop, F: Fn(&T) -> D>(
+    f: &mut fmt::Formatter<W>,
+    key: &str,
+    items: &[T],
+    shown: F,
+) -> fmt::Result
+    requires { F.IsAlwaysCallable shown }
 {
-    let next = put_list(b" C=", ListKind::Open, Shown::Children, d, out, at);
-    put_list(b" V=", ListKind::Waiting, Shown::Children, d, out, next)
-}
-
-// The position, and whether the record is settled and finished.
-fn put_state(d: TagDecoder, out: &mut [u8], at: usize) -> usize
-    requires { at ≤ length out.old }
-    ensures { result ≤ length out.old }
-{
-    let after_p = put_named(b" p=", d.position, out, at);
-    let after_s = put_flag(b" s=", d.settled, out, after_p);
-    put_flag(b" f=", d.finished, out, after_s)
-}
-
-// The record at the front of `out`. Answers how many bytes it has there.
-pub fn put_record(d: TagDecoder, out: &mut [u8]) -> usize
-    ensures { result ≤ length out.old }
-{
-    let after_a = put_named(b"st a=", allowance(d), out, 0);
-    let after_m = put_max(d, out, after_a);
-    let after_f = put_state(d, out, after_m);
-    let after_open = put_list(b" O=", ListKind::Open, Shown::Item, d, out, after_f);
-    let after_waiting = put_list(b" W=", ListKind::Waiting, Shown::Item, d, out, after_open);
-    let after_counts = put_counts(d, out, after_waiting);
-    put_flag(b" x=", d.settings.strict, out, after_counts)
+    write!(f, " {key}=")?;
+    if items.is_empty() {
+        return write!(f, "-");
+    }
+    for (i, item) in items.iter().enumerate() {
+        if 0 < i {
+            write!(f, ",")?;
+        }
+        write!(f, "{}", shown(item))?;
+    }
+    Ok(())
 }

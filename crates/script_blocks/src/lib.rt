@@ -1,4 +1,4 @@
-// The calls of a script that keep the decoder's record: `store` and `restore`.
+//! The calls of a script that keep the decoder's record: `store` and `restore`.
 #![tactic(auto)]
 
 pub mod restoring;

@@ -1,25 +1,19 @@
-// The answers of the C calls: `g`, a number call, and the lent output as it is before the call.
+//! The answers of the C calls: `g`, a number call, and the lent output as it is before the call.
 
-ghost use Rattle.std.specs.Prelude.{◌≤◌, length};
+ghost use Rattle.std.specs.Prelude.{◌≡◌, OnErr};
 
-use crate::calls::{Call, MOST_BYTES, Vint, number_call};
+use crate::calls::{Call, Vint, read_call};
 use ebml::numbers::{
     ebml_arr_to_f64, ebml_arr_to_i64, ebml_arr_to_u64, ebml_as_signed_vint,
     ebml_as_signed_vint_with_length, ebml_as_vint, ebml_as_vint_with_length, ebml_is_vint,
     ebml_read_signed_vint, ebml_read_vint,
 };
-use script_text::answers::{bad_line, put, put_decimal, put_hex};
-use script_text::reading::read_hex;
-use script_text::words::last_word;
+use script_text::answers::{BadLine, Line};
+use script_text::reading::{MOST_BYTES, read_hex};
+use script_text::words::rsplit_once;
 
-#[derive(Clone, Copy)]
-enum Outcome {
-    Number(u64),
-    NoCall,
-}
-
-fn write(v: Vint, lent: &mut [u8]) -> u64 {
-    match v {
+fn write(vint: Vint, lent: &mut [u8]) -> u64 {
+    match vint {
         Vint::Shortest(n) => ebml_as_vint(n, lent),
         Vint::OfLength(n, width) => ebml_as_vint_with_length(n, width, lent),
         Vint::ShortestSigned(z) => ebml_as_signed_vint(z, lent),
@@ -27,54 +21,31 @@ fn write(v: Vint, lent: &mut [u8]) -> u64 {
     }
 }
 
-fn outcome_of(call: Call, bytes: &[u8], lent: &mut [u8]) -> Outcome {
+/// The result number of a call that has a C form.
+fn result_of(call: Call, lent: &mut [u8]) -> Option<u64> {
     match call {
-        Call::ReadVint => Outcome::Number(ebml_read_vint(bytes, lent)),
-        Call::ReadSignedVint => Outcome::Number(ebml_read_signed_vint(bytes, lent)),
-        Call::ArrToU64 => Outcome::Number(ebml_arr_to_u64(bytes, lent)),
-        Call::ArrToI64 => Outcome::Number(ebml_arr_to_i64(bytes, lent)),
-        Call::ArrToF64 => Outcome::Number(ebml_arr_to_f64(bytes, lent)),
-        Call::ArrToF64Bits => Outcome::NoCall,
-        Call::IsVint(n) => Outcome::Number(ebml_is_vint(n)),
-        Call::LengthOnPage(_) => Outcome::NoCall,
-        Call::IsElementId(_) => Outcome::NoCall,
-        Call::Write(v) => Outcome::Number(write(v, lent)),
-        Call::Bad => Outcome::NoCall,
+        Call::ReadVint(bytes) => Some(ebml_read_vint(bytes, lent)),
+        Call::ReadSignedVint(bytes) => Some(ebml_read_signed_vint(bytes, lent)),
+        Call::ArrToU64(bytes) => Some(ebml_arr_to_u64(bytes, lent)),
+        Call::ArrToI64(bytes) => Some(ebml_arr_to_i64(bytes, lent)),
+        Call::ArrToF64(bytes) => Some(ebml_arr_to_f64(bytes, lent)),
+        Call::IsVint(n) => Some(ebml_is_vint(n)),
+        Call::Write(vint) => Some(write(vint, lent)),
+        Call::ArrToF64Bits(_) | Call::LengthOnPage(_) | Call::IsElementId(_) => None,
     }
 }
 
-fn outcome_on(text: &[u8], lent: &mut [u8]) -> Outcome {
+/// Answers what stands after the `g` and its space; nothing is written where it is no call.
+pub fn answer(text: &[u8], out: &mut Line) -> Result<(), BadLine>
+    ensures { OnErr result (out.new ≡ out.old) }
+{
+    let (call, output) = rsplit_once(text, b' ').ok_or(BadLine)?;
     let mut bytes = [0u8; MOST_BYTES];
-    let r = number_call(text, &mut bytes);
-    let call = r.call;
-    let count = r.count;
-    outcome_of(call, &bytes[0..count], lent)
-}
-
-fn answer_lent(text: &[u8], lent: &mut [u8], out: &mut [u8]) -> usize
-    ensures { result ≤ length out.old }
-{
-    let Outcome::Number(n) = outcome_on(text, lent) else {
-        return bad_line(out);
-    };
-    let after_number = put_decimal(n, out, 0);
-    let after_space = put(b' ', out, after_number);
-    put_hex(lent, out, after_space)
-}
-
-// What stands after the `g` and its space.
-pub fn answer(text: &[u8], out: &mut [u8]) -> usize
-    ensures { result ≤ length out.old }
-{
-    let last = last_word(text);
-    if last == 0 {
-        return bad_line(out);
-    }
+    let call = read_call(call, &mut bytes).ok_or(BadLine)?;
     let mut lent = [0u8; MOST_BYTES];
-    let hex = read_hex(&text[last..], &mut lent);
-    if hex.is_hex {
-        let count = hex.count;
-        return answer_lent(&text[0..last - 1], &mut lent[0..count], out);
-    }
-    bad_line(out)
+    let count = read_hex(output, &mut lent).ok_or(BadLine)?;
+    let number = result_of(call, &mut lent[..count]).ok_or(BadLine)?;
+    write!(out, "{number} ");
+    out.put_hex(&lent[..count]);
+    Ok(())
 }

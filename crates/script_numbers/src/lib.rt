@@ -1,23 +1,21 @@
-// The number calls of a script, and their C form.
+//! The number calls of a script, and their C form.
 #![tactic(auto)]
 
-ghost use Rattle.std.specs.Prelude.{◌≤◌, length};
+ghost use Rattle.std.specs.Prelude.{◌≡◌, OnErr};
 
 mod calls;
 mod gateway;
 mod numbers;
 
-use script_text::words::{same, word_end};
+use script_text::answers::{BadLine, Line};
+use script_text::words::split_once;
 
-// The answer to one line at the front of `out`, and how many bytes it has.
-pub fn answer(line: &[u8], out: &mut [u8]) -> usize
-    ensures { result ≤ length out.old }
+/// Answers one line; nothing is written where it is no call.
+pub fn answer(line: &[u8], out: &mut Line) -> Result<(), BadLine>
+    ensures { OnErr result (out.new ≡ out.old) }
 {
-    let end = word_end(line, 0);
-    if end < line.len() {
-        if same(&line[0..end], b"g") {
-            return gateway::answer(&line[end + 1..], out);
-        }
+    match split_once(line, b' ') {
+        Some((b"g", call)) => gateway::answer(call, out),
+        _ => numbers::answer(line, out),
     }
-    numbers::answer(line, out)
 }

@@ -1,132 +1,59 @@
-// The answers of the number routines.
+//! The answers of the number routines.
 
-ghost use Rattle.std.specs.Prelude.{◌≤◌, length};
+ghost use Rattle.std.specs.Prelude.{◌≡◌, OnErr};
 
-use crate::calls::{Call, MOST_BYTES, Vint, number_call};
-use script_text::answers::{
-    bad_line, is_nan, put, put_bits, put_decimal, put_hex, put_signed, put_text, refused, yes_or_no,
-};
+use crate::calls::{Call, Vint, read_call};
+use script_text::answers::{BadLine, Line, is_nan};
+use script_text::reading::MOST_BYTES;
+use std::fmt::Display;
 use tools::element_id::is_element_id;
-use tools::errors::{ToolError, number_and_place};
-use tools::float::{ArrToF64, arr_to_f64};
-use tools::integer::{ArrToI64, ArrToU64, arr_to_i64, arr_to_u64};
+use tools::errors::{ToolError, number};
+use tools::float::arr_to_f64;
+use tools::integer::{arr_to_i64, arr_to_u64};
 use tools::page::length_on_page;
-use tools::signed_vint::{
-    ReadSignedVint, as_signed_vint, as_signed_vint_with_length, read_signed_vint,
-};
-use tools::vint::{ReadVint, Written, as_vint, as_vint_with_length, is_vint, read_vint};
+use tools::signed_vint::{as_signed_vint, as_signed_vint_with_length, read_signed_vint};
+use tools::status::Status;
+use tools::vint::{as_vint, as_vint_with_length, is_vint, read_vint};
 
-// A number routine's refusal: its number. Its place is 0, and is not printed.
-fn refused_at_0(e: ToolError, out: &mut [u8]) -> usize
-    ensures { result ≤ length out.old }
-{
-    refused(number_and_place(e).number, out)
+/// A number routine's refusal. Its place is 0, and is not printed.
+fn put_refusal(error: ToolError, out: &mut Line) {
+    write!(out, "X {}", number(error));
 }
 
-// Need more, and how many bytes are missing.
-fn needs_more(missing: usize, out: &mut [u8]) -> usize
-    ensures { result ≤ length out.old }
-{
-    let at = put_text(b"N need=", out, 0);
-    put_decimal(missing as u64, out, at)
-}
-
-fn vint_read(r: ReadVint, out: &mut [u8]) -> usize
-    ensures { result ≤ length out.old }
-{
-    match r {
-        ReadVint::NeedMore { missing } => needs_more(missing, out),
-        ReadVint::Refused(e) => refused_at_0(e, out),
-        ReadVint::Vint { value, length } => {
-            let after_v = put_text(b"V ", out, 0);
-            let after_value = put_decimal(value, out, after_v);
-            let after_space = put(b' ', out, after_value);
-            put_decimal(length as u64, out, after_space)
-        }
+// A vint of either kind, or how many bytes of it are missing.
+fn put_vint<T: Display + Drop>(read: Result<Status<(T, usize)>, ToolError>, out: &mut Line) {
+    match read {
+        Ok(Status::Complete((value, length))) => write!(out, "V {value} {length}"),
+        Ok(Status::NeedMore { missing }) => write!(out, "N need={missing}"),
+        Err(error) => put_refusal(error, out),
     }
 }
 
-fn signed_vint_read(r: ReadSignedVint, out: &mut [u8]) -> usize
-    ensures { result ≤ length out.old }
-{
-    match r {
-        ReadSignedVint::NeedMore { missing } => needs_more(missing, out),
-        ReadSignedVint::Refused(e) => refused_at_0(e, out),
-        ReadSignedVint::Vint { value, length } => {
-            let after_v = put_text(b"V ", out, 0);
-            let after_value = put_signed(value, out, after_v);
-            let after_space = put(b' ', out, after_value);
-            put_decimal(length as u64, out, after_space)
-        }
+// A number of either kind.
+fn put_number<T: Display + Drop>(read: Result<T, ToolError>, out: &mut Line) {
+    match read {
+        Ok(value) => write!(out, "V {value}"),
+        Err(error) => put_refusal(error, out),
     }
 }
 
-fn u64_read(r: ArrToU64, out: &mut [u8]) -> usize
-    ensures { result ≤ length out.old }
-{
-    match r {
-        ArrToU64::Value(n) => {
-            let at = put_text(b"V ", out, 0);
-            put_decimal(n, out, at)
-        }
-        ArrToU64::Refused(e) => refused_at_0(e, out),
+fn put_f64_bits(read: Result<u64, ToolError>, out: &mut Line) {
+    match read {
+        Ok(bits) => write!(out, "D {bits:016X}"),
+        Err(error) => put_refusal(error, out),
     }
 }
 
-fn i64_read(r: ArrToI64, out: &mut [u8]) -> usize
-    ensures { result ≤ length out.old }
-{
-    match r {
-        ArrToI64::Value(v) => {
-            let at = put_text(b"V ", out, 0);
-            put_signed(v, out, at)
-        }
-        ArrToI64::Refused(e) => refused_at_0(e, out),
+/// What is compared of a NaN is only that it is one.
+fn put_f64(read: Result<u64, ToolError>, out: &mut Line) {
+    match read {
+        Ok(bits) if is_nan(bits) => out.put(b"D NaN"),
+        _ => put_f64_bits(read, out),
     }
 }
 
-fn bits_read(r: ArrToF64, out: &mut [u8]) -> usize
-    ensures { result ≤ length out.old }
-{
-    match r {
-        ArrToF64::Bits(bits) => {
-            let at = put_text(b"D ", out, 0);
-            put_bits(bits, out, at)
-        }
-        ArrToF64::Refused(e) => refused_at_0(e, out),
-    }
-}
-
-// What is compared of a NaN is only that it is one.
-fn f64_read(r: ArrToF64, out: &mut [u8]) -> usize
-    ensures { result ≤ length out.old }
-{
-    if let ArrToF64::Bits(bits) = r {
-        if is_nan(bits) {
-            return put_text(b"D NaN", out, 0);
-        }
-    }
-    bits_read(r, out)
-}
-
-// A length is never more than the bytes that were lent.
-fn written(w: Written, bytes: &[u8], out: &mut [u8]) -> usize
-    ensures { result ≤ length out.old }
-{
-    match w {
-        Written::Length(n) => {
-            if bytes.len() < n {
-                return bad_line(out);
-            }
-            let at = put_text(b"B ", out, 0);
-            put_hex(&bytes[0..n], out, at)
-        }
-        Written::Refused(e) => refused_at_0(e, out),
-    }
-}
-
-fn write(v: Vint, bytes: &mut [u8]) -> Written {
-    match v {
+fn write(vint: Vint, bytes: &mut [u8]) -> Result<usize, ToolError> {
+    match vint {
         Vint::Shortest(n) => as_vint(n, bytes),
         Vint::OfLength(n, width) => as_vint_with_length(n, width, bytes),
         Vint::ShortestSigned(z) => as_signed_vint(z, bytes),
@@ -134,39 +61,39 @@ fn write(v: Vint, bytes: &mut [u8]) -> Written {
     }
 }
 
-fn answer_vint(v: Vint, out: &mut [u8]) -> usize
-    ensures { result ≤ length out.old }
+/// The bytes of a vint, which are never more than were lent, or the refusal.
+fn put_written(vint: Vint, out: &mut Line) -> Result<(), BadLine>
+    ensures { OnErr result (out.new ≡ out.old) }
 {
     let mut bytes = [0u8; 8];
-    let w = write(v, &mut bytes);
-    written(w, &bytes, out)
-}
-
-fn answer_call(call: Call, bytes: &[u8], out: &mut [u8]) -> usize
-    ensures { result ≤ length out.old }
-{
-    match call {
-        Call::ReadVint => vint_read(read_vint(bytes), out),
-        Call::ReadSignedVint => signed_vint_read(read_signed_vint(bytes), out),
-        Call::ArrToU64 => u64_read(arr_to_u64(bytes), out),
-        Call::ArrToI64 => i64_read(arr_to_i64(bytes), out),
-        Call::ArrToF64 => f64_read(arr_to_f64(bytes), out),
-        Call::ArrToF64Bits => bits_read(arr_to_f64(bytes), out),
-        Call::IsVint(n) => yes_or_no(is_vint(n), out),
-        Call::IsElementId(id) => yes_or_no(is_element_id(id), out),
-        Call::LengthOnPage(first) => put_decimal(length_on_page(first) as u64, out, 0),
-        Call::Write(v) => answer_vint(v, out),
-        Call::Bad => bad_line(out),
+    match write(vint, &mut bytes) {
+        Ok(count) => {
+            let vint = bytes.get(..count).ok_or(BadLine)?;
+            out.put(b"B ");
+            out.put_hex(vint);
+        }
+        Err(error) => put_refusal(error, out),
     }
+    Ok(())
 }
 
-// What a line that calls a number routine answers.
-pub fn answer(line: &[u8], out: &mut [u8]) -> usize
-    ensures { result ≤ length out.old }
+/// Answers a line that calls a number routine; nothing is written where it is no call.
+pub fn answer(line: &[u8], out: &mut Line) -> Result<(), BadLine>
+    ensures { OnErr result (out.new ≡ out.old) }
 {
     let mut bytes = [0u8; MOST_BYTES];
-    let r = number_call(line, &mut bytes);
-    let call = r.call;
-    let count = r.count;
-    answer_call(call, &bytes[0..count], out)
+    let call = read_call(line, &mut bytes).ok_or(BadLine)?;
+    match call {
+        Call::ReadVint(bytes) => put_vint(read_vint(bytes), out),
+        Call::ReadSignedVint(bytes) => put_vint(read_signed_vint(bytes), out),
+        Call::ArrToU64(bytes) => put_number(arr_to_u64(bytes), out),
+        Call::ArrToI64(bytes) => put_number(arr_to_i64(bytes), out),
+        Call::ArrToF64(bytes) => put_f64(arr_to_f64(bytes), out),
+        Call::ArrToF64Bits(bytes) => put_f64_bits(arr_to_f64(bytes), out),
+        Call::IsVint(n) => write!(out, "{}", u8::from(is_vint(n))),
+        Call::IsElementId(id) => write!(out, "{}", u8::from(is_element_id(id))),
+        Call::LengthOnPage(first) => write!(out, "{}", length_on_page(first)),
+        Call::Write(vint) => put_written(vint, out)?,
+    }
+    Ok(())
 }

@@ -1,53 +1,30 @@
-// A line that begins with the name of a call on the table, and its answer.
+//! A line that begins with the name of a call on the table, and its answer.
 
-ghost use Rattle.std.specs.Prelude.{◌≤◌, length};
-ghost use Rattle.script_table.specs.HeldIn.{HeldIn};
+ghost use Rattle.std.specs.Prelude.{◌≡◌, OnErr};
 
-use crate::asking::answer_question;
-use crate::lending::{Answered, LentTable, answer_table};
-use script_text::words::{same, word_end};
+use crate::asking::{answer_question, read_question};
+use crate::lending::{LentTable, lend};
+use script_text::answers::{BadLine, Line};
+use script_text::words::split_once;
 
-// Whether a name is that of a call on the lent table.
+/// Whether a name is that of a call on the lent table.
 pub fn is_call(name: &[u8]) -> bool {
-    if same(name, b"table") {
-        return true;
-    }
-    if same(name, b"check") {
-        return true;
-    }
-    if same(name, b"ended") {
-        return true;
-    }
-    if same(name, b"sended") {
-        return true;
-    }
-    if same(name, b"path") {
-        return true;
-    }
-    same(name, b"spath")
+    matches!(
+        name,
+        b"table" | b"check" | b"ended" | b"sended" | b"path" | b"spath"
+    )
 }
 
-// The answer to one line at the front of `out`, and the table that is lent after it.
-pub fn answer(
-    line: &[u8],
-    entries: &mut [u64],
-    parts: &mut [u64],
-    table: LentTable,
-    out: &mut [u8],
-) -> Answered
-    requires { HeldIn table entries.old parts.old }
-    ensures { HeldIn result.table entries.old parts.old × (result.count ≤ length out.old) }
+/// Answers one line; `table` is the table that is lent after it. Where the line is no call, the one that was lent
+/// stays, and nothing is written.
+pub fn answer(line: &[u8], table: &mut LentTable, out: &mut Line) -> Result<(), BadLine>
+    ensures table { OnErr result (table.new ≡ table.old) }
+    ensures out { OnErr result (out.new ≡ out.old) }
 {
-    let end = word_end(line, 0);
-    if end < line.len() {
-        if same(&line[0..end], b"table") {
-            return answer_table(&line[end + 1..], entries, parts, table, out);
-        }
+    if let Some((b"table", words)) = split_once(line, b' ') {
+        return lend(words, table, out);
     }
-    let n = table.entries;
-    let m = table.parts;
-    Answered {
-        table,
-        count: answer_question(line, &entries[0..n], &parts[0..m], table.is_good, out),
-    }
+    let question = read_question(line).ok_or(BadLine)?;
+    answer_question(question, table, out);
+    Ok(())
 }

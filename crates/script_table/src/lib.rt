@@ -1,4 +1,4 @@
-// The calls on a lent table: `table`, which lends one; `check`, `ended`, `path`, `sended` and `spath`, which ask it.
+//! The calls on a lent table: `table`, which lends one; `check`, `ended`, `path`, `sended` and `spath`, which ask it.
 #![tactic(auto)]
 
 mod asking;

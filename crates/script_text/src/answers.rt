@@ -1,126 +1,107 @@
-// The pieces of an answer. Each is put at a place of the lent bytes and answers the place after it; what finds no room
-// is left out.
+//! The answer to a line.
 
-ghost use Rattle.std.specs.Prelude.{◌≤◌, ◌<◌, length};
+ghost use Rattle.std.specs.Prelude.{◌≡◌, ◌-◌, ◌≤◌, ◌↔◌, ◌++◌, [], length, take, IsTrue};
 
-use numerals::glyph_of;
+use arrayvec::ArrayVec;
+use std::error::Error;
+use std::fmt;
+use std::fmt::Display;
+use std::marker::Model;
 
-// One byte.
-pub fn put(b: u8, out: &mut [u8], at: usize) -> usize
-    requires { at ≤ length out.old }
-    ensures { result ≤ length out.old }
-{
-    if at < out.len() {
-        out[at] = b;
-        return at + 1;
+/// More bytes than any answer has, with its newline.
+pub const MOST_ANSWER: usize = 20000;
+
+/// A line that says no call.
+#[derive(Clone, Copy, Debug, PartialEq, Eq)]
+pub struct BadLine;
+
+impl Display for BadLine {
+    fn fmt<W: fmt::Write>(&self, f: &mut fmt::Formatter<W>) -> fmt::Result {
+        write!(f, "BADLINE")
     }
-    at
 }
 
-// The bytes of a text.
-pub fn put_text(text: &[u8], out: &mut [u8], at: usize) -> usize
-    requires { at ≤ length out.old }
-    ensures { result ≤ length out.old }
-{
-    let mut to = at;
-    let mut i: usize = 0;
-    while i < text.len() {
-        to = put(text[i], out, to);
-        i += 1;
+impl Error for BadLine {}
+
+/// A line of text that is being written: `write!(line, ..)`, which answers nothing here, and `put_hex` add to its end.
+/// What finds no room is left out.
+#[derive(Default, Drop)]
+pub struct Line {
+    text: ArrayVec<u8, MOST_ANSWER>,
+}
+
+impl Model for Line {
+    ghost use Rattle.std.specs.Prelude.{ℕ, List};
+
+    ghost Value = { List ℕ };
+
+    ghost view = { λ line. line.text.items };
+}
+
+impl Line {
+    /// The empty line.
+    pub fn new() -> Line
+        ensures { result ≡ [] }
+    {
+        Line {
+            text: ArrayVec::new(),
+        }
     }
-    to
-}
 
-// A number in decimal.
-pub fn put_decimal(n: u64, out: &mut [u8], at: usize) -> usize
-    requires { at ≤ length out.old }
-    ensures { result ≤ length out.old }
-{
-    let mut digits = [0u8; 20];
-    let k = numerals::put_decimal(n, &mut digits, 0);
-    put_text(&digits[0..k], out, at)
-}
-
-// A signed number in decimal.
-pub fn put_signed(v: i64, out: &mut [u8], at: usize) -> usize
-    requires { at ≤ length out.old }
-    ensures { result ≤ length out.old }
-{
-    let mut digits = [0u8; 21];
-    let k = numerals::put_signed(v, &mut digits, 0);
-    put_text(&digits[0..k], out, at)
-}
-
-// The two hex digits of a byte.
-fn put_byte(b: u8, out: &mut [u8], at: usize) -> usize
-    requires { at ≤ length out.old }
-    ensures { result ≤ length out.old }
-{
-    let next = put(glyph_of((b / 16) as u64), out, at);
-    put(glyph_of((b % 16) as u64), out, next)
-}
-
-// The hex digits of bytes.
-fn put_digits(bytes: &[u8], out: &mut [u8], at: usize) -> usize
-    requires { at ≤ length out.old }
-    ensures { result ≤ length out.old }
-{
-    let mut to = at;
-    let mut i: usize = 0;
-    while i < bytes.len() {
-        to = put_byte(bytes[i], out, to);
-        i += 1;
+    /// What is written.
+    pub fn as_slice(&self) -> &[u8]
+        ensures value { result.now ≡ self.now }
+        ensures fits { length result.now ≤ MOST_ANSWER }
+    {
+        self.text.as_slice()
     }
-    to
-}
 
-// HEX: capitals, and `-` for no bytes.
-pub fn put_hex(bytes: &[u8], out: &mut [u8], at: usize) -> usize
-    requires { at ≤ length out.old }
-    ensures { result ≤ length out.old }
-{
-    if bytes.len() == 0 {
-        return put(b'-', out, at);
+    /// Whether nothing is written.
+    pub fn is_empty(&self) -> bool
+        ensures { IsTrue result ↔ (self.now ≡ []) }
+    {
+        self.text.is_empty()
     }
-    put_digits(bytes, out, at)
-}
 
-// The 16 digits of 64 bits.
-pub fn put_bits(bits: u64, out: &mut [u8], at: usize) -> usize
-    requires { at ≤ length out.old }
-    ensures { result ≤ length out.old }
-{
-    let mut digits = [0u8; 16];
-    numerals::put_hex16(bits, &mut digits, 0);
-    put_text(&digits, out, at)
-}
-
-// What a line that says no call answers.
-pub fn bad_line(out: &mut [u8]) -> usize
-    ensures { result ≤ length out.old }
-{
-    put_text(b"BADLINE", out, 0)
-}
-
-// `1` or `0`.
-pub fn yes_or_no(is_yes: bool, out: &mut [u8]) -> usize
-    ensures { result ≤ length out.old }
-{
-    if is_yes {
-        return put(b'1', out, 0);
+    /// Forgets what is written.
+    pub fn clear(&mut self)
+        ensures { self.new ≡ [] }
+    {
+        self.text.clear();
     }
-    put(b'0', out, 0)
+
+    /// Adds bytes.
+    pub fn put(&mut self, bytes: &[u8])
+        ensures { self.new ≡ self.old ++ take (MOST_ANSWER - length self.old) bytes.now }
+    {
+        let count = self.text.remaining_capacity().min(bytes.len());
+        let _fits = self.text.try_extend_from_slice(&bytes[..count]);
+    }
+
+    /// Adds HEX: capitals, and `-` for no bytes.
+    pub fn put_hex(&mut self, bytes: &[u8]) {
+        if bytes.is_empty() {
+            self.put(b"-");
+        }
+        for byte in bytes {
+            write!(self, "{byte:02X}");
+        }
+    }
+
+    /// Adds what `write!` formats.
+    pub fn write_fmt<D: Display + Drop>(&mut self, text: D) {
+        let _always = fmt::Write::write(self, text);
+    }
 }
 
-// A refusal, by its number.
-pub fn refused(number: u64, out: &mut [u8]) -> usize
-    ensures { result ≤ length out.old }
-{
-    let at = put_text(b"X ", out, 0);
-    put_decimal(number, out, at)
+impl fmt::Write for Line {
+    fn write_str(&mut self, text: &str) -> fmt::Result {
+        self.put(text.as_bytes());
+        Ok(())
+    }
 }
 
-// Whether the 64 bits of a float are those of a NaN.
+/// Whether the 64 bits of a float are those of a NaN.
 pub fn is_nan(bits: u64) -> bool {
     0x7ff0_0000_0000_0000 < bits % 0x8000_0000_0000_0000
 }

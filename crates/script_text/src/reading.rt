@@ -1,192 +1,98 @@
-// Numbers and bytes as the words of a line write them.
+//! Numbers and bytes as the words of a line write them.
 
-ghost use Rattle.std.specs.Prelude.{◌*◌, ◌≤◌, ◌<◌, length};
+ghost use Rattle.std.specs.Prelude.{◌≡◌, ◌≢◌, ◌≤◌, ◌<◌, ◌^◌, ◌↔◌, ◌∷◌, ◌-ℤ◌, ℕ, pos, List, length, slice_index_or, IsSome, IfSome, IfNone};
+ghost use Rattle.numerals.specs.Numeral.{digit_of};
+ghost use Rattle.script_text.specs.Number.{IsDigit, SaysNumber};
 
-use crate::words::same;
+/// More bytes than the HEX of a line of 16,384 bytes says.
+pub const MOST_BYTES: usize = 8192;
 
-// A number below 2^64, or no such number.
-#[derive(Clone, Copy)]
-pub enum Number {
-    Value(u64),
-    Bad,
-}
-
-// A number of 64 bits with its sign, or no such number.
-#[derive(Clone, Copy)]
-pub enum Signed {
-    Value(i64),
-    Bad,
-}
-
-// `count` bytes at the front of what was lent, if the word is HEX.
-#[derive(Clone, Copy)]
-pub struct HexBytes {
-    pub is_hex: bool,
-    pub count: usize,
-}
-
-// A byte, or no hex digits.
-#[derive(Clone, Copy)]
-enum Byte {
-    Value(u8),
-    Bad,
-}
-
-// A hex digit's value; 16 for any other byte.
-fn hex_digit(b: u8) -> u8 {
-    if b < b'0' {
-        return 16;
-    }
-    if b <= b'9' {
-        return b - b'0';
-    }
-    if b < b'A' {
-        return 16;
-    }
-    if b <= b'F' {
-        return b - b'A' + 10;
-    }
-    16
-}
-
-// `value` with one more digit of a base.
-fn push_digit(value: u64, base: u64, b: u8) -> Number
-    requires { 0 < base }
+/// A hex digit's value.
+fn hex_digit(byte: u8) -> Option<u8>
+    ensures value { IfSome result (λ value. (value < 16) × (value ≡ digit_of byte)) }
+    ensures digit { IsSome result ↔ IsDigit 16 byte }
 {
-    let digit = hex_digit(b) as u64;
-    if base <= digit {
-        return Number::Bad;
+    match byte {
+        b'0'..=b'9' => Some(byte - b'0'),
+        b'A'..=b'F' => Some(byte - b'A' + 10),
+        _ => None,
     }
-    if (u64::MAX - digit) / base < value {
-        return Number::Bad;
-    }
-    Number::Value(value * base + digit)
 }
 
-// The number that digits of a base say, below 2^64; no digit says 0.
-fn read_digits(word: &[u8], base: u64) -> Number
-    requires { 0 < base }
+/// The number that digits of a base up to 16 say, below 2^64; no digit says 0.
+#[tactic(auto, using(crate::proofs::Digits::one_read, crate::proofs::Digits::said_grows))]
+fn read_digits(word: &[u8], base: u64) -> Option<u64>
+    requires { base ≤ 16 }
+    ensures value { IfSome result (SaysNumber base word.now) }
+    ensures none { IfNone result ((n : ℕ) → SaysNumber base word.now n → 2 ^ 64 ≤ n) }
 {
     let mut value: u64 = 0;
-    let mut i: usize = 0;
-    while i < word.len() {
-        let Number::Value(v) = push_digit(value, base, word[i]) else {
-            return Number::Bad;
-        };
-        value = v;
-        i += 1;
+    for &byte in word {
+        let digit = u64::from(hex_digit(byte)?);
+        if base <= digit {
+            return None;
+        }
+        value = value.checked_mul(base)?.checked_add(digit)?;
     }
-    Number::Value(value)
+    Some(value)
 }
 
-// 1 to 20 digits, of a number below 2^64.
-pub fn read_decimal(word: &[u8]) -> Number {
-    if word.len() == 0 {
-        return Number::Bad;
-    }
-    if 20 < word.len() {
-        return Number::Bad;
+/// The number below 2^64 that 1 to 20 decimal digits say.
+pub fn read_decimal(word: &[u8]) -> Option<u64>
+    ensures value { IfSome result (SaysNumber 10 word.now) }
+    ensures none { IfNone result ((n : ℕ) → SaysNumber 10 word.now n → 0 < length word.now → length word.now ≤ 20 → 2 ^ 64 ≤ n) }
+{
+    if word.is_empty() || 20 < word.len() {
+        return None;
     }
     read_digits(word, 10)
 }
 
-// A number that is not negative.
-fn plus(d: Number) -> Signed {
-    let Number::Value(n) = d else {
-        return Signed::Bad;
-    };
-    if 0x8000_0000_0000_0000 <= n {
-        return Signed::Bad;
-    }
-    Signed::Value(n as i64)
-}
-
-// The number after a `-`.
-fn minus(d: Number) -> Signed {
-    let Number::Value(n) = d else {
-        return Signed::Bad;
-    };
-    if n == 0 {
-        return Signed::Value(0);
-    }
-    if 0x8000_0000_0000_0000 < n {
-        return Signed::Bad;
-    }
-    Signed::Value(!((n - 1) as i64))
-}
-
-// A decimal number, after a `-` if it is negative.
-pub fn read_signed(word: &[u8]) -> Signed {
-    if word.len() == 0 {
-        return Signed::Bad;
-    }
-    if word[0] == b'-' {
-        return minus(read_decimal(&word[1..]));
-    }
-    plus(read_decimal(word))
-}
-
-// The byte that two hex digits say.
-fn hex_pair(high: u8, low: u8) -> Byte {
-    let h = hex_digit(high);
-    let l = hex_digit(low);
-    if 15 < h {
-        return Byte::Bad;
-    }
-    if 15 < l {
-        return Byte::Bad;
-    }
-    Byte::Value(h * 16 + l)
-}
-
-// Whether the first 2n bytes of the word are hex digits; what they say is put at the front of `into`.
-fn fill(word: &[u8], n: usize, into: &mut [u8]) -> bool
-    requires { (2 * n ≤ length word.now) × (n ≤ length into.old) }
+/// The number that decimal digits say, after a `-` if it is negative.
+pub fn read_signed(word: &[u8]) -> Option<i64>
+    ensures positive { slice_index_or word.now 0 48 ≢ 45 → IfSome result (λ z. (n : ℕ) × (z ≡ pos n) × SaysNumber 10 word.now n) }
+    ensures negative { (digits : List ℕ) → word.now ≡ 45 ∷ digits → IfSome result (λ z. (n : ℕ) × (z ≡ pos 0 -ℤ pos n) × SaysNumber 10 digits n) }
 {
-    let mut i: usize = 0;
-    while i < n {
-        let Byte::Value(b) = hex_pair(word[2 * i], word[2 * i + 1]) else {
-            return false;
-        };
-        into[i] = b;
-        i += 1;
+    match word {
+        [b'-', digits @ ..] => 0i64.checked_sub_unsigned(read_decimal(digits)?),
+        _ => i64::try_from(read_decimal(word)?).ok(),
     }
-    true
 }
 
-// An ID or a word of a table: 1 to 16 hex digits. A leading zero stands only in `0` itself, so more digits say too
-// much.
-pub fn read_word(word: &[u8]) -> Number {
-    if word.len() == 0 {
-        return Number::Bad;
-    }
-    if 1 < word.len() {
-        if word[0] == b'0' {
-            return Number::Bad;
-        }
-    }
-    read_digits(word, 16)
-}
-
-// The bytes of a word of HEX, at the front of `into`; `-` has none.
-pub fn read_hex(word: &[u8], into: &mut [u8]) -> HexBytes
-    ensures { result.count ≤ length into.old }
+/// An ID or a word of a table, of 1 to 16 hex digits. A leading zero stands only in `0` itself, so more digits say too
+/// much.
+pub fn read_word(word: &[u8]) -> Option<u64>
+    ensures value { IfSome result (SaysNumber 16 word.now) }
+    ensures none { IfNone result ((n : ℕ) → SaysNumber 16 word.now n → 0 < length word.now → slice_index_or word.now 0 48 ≢ 48 → 2 ^ 64 ≤ n) }
 {
-    let n = word.len() / 2;
-    if same(word, b"-") {
-        return HexBytes {
-            is_hex: true,
-            count: 0,
-        };
+    match word {
+        [] | [b'0', _, ..] => None,
+        _ => read_digits(word, 16),
     }
-    if n == 0 || word.len() % 2 != 0 || into.len() < n {
-        return HexBytes {
-            is_hex: false,
-            count: 0,
-        };
+}
+
+/// Puts the bytes that HEX says at the front of `into`, and answers how many they are; `-` says none. It is no HEX that
+/// says more bytes than `into` has.
+pub fn read_hex(word: &[u8], into: &mut [u8]) -> Option<usize>
+    ensures { IfSome result (λ count. count ≤ length into.old) }
+{
+    if matches!(word, b"-") {
+        return Some(0);
     }
-    HexBytes {
-        is_hex: fill(word, n, into),
-        count: n,
+    let count = word.len() / 2;
+    if word.is_empty() || word.len() % 2 != 0 || into.len() < count {
+        return None;
     }
+    for (byte, pair) in into.iter_mut().zip(word.chunks_exact(2)) {
+        *byte = hex_digit(pair[0])? * 16 + hex_digit(pair[1])?;
+    }
+    Some(count)
+}
+
+/// The bytes that HEX says, which it puts at the front of `into` as `read_hex` does.
+pub fn read_bytes<'a>(word: &[u8], into: &'a mut [u8]) -> Option<&'a [u8]>
+    ensures { IfSome result (λ bytes. length bytes.now ≤ length into.old) }
+{
+    let count = read_hex(word, into)?;
+    Some(&into[..count])
 }

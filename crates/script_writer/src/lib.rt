@@ -1,5 +1,5 @@
-// The call of a script on the writer: `write`.
+//! The call of a script on the writer: `write`.
 #![tactic(auto)]
 
 pub mod calls;
-pub mod items;
+mod items;

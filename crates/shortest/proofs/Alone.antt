@@ -9,21 +9,20 @@ use lib.ListN.{length, take, drop, length-drop}
 use lib.Seq.{length-take-le, take-take}
 use Rattle.basics.specs.Lists.{first_index}
 use Rattle.tools.specs.Float.{arr_to_f64}
-use Rattle.tools.specs.declared.float.ArrToF64.{ArrToF64}
-use Rattle.tools.specs.declared.float.ArrToF64.TheVariants as bits
 use Rattle.utf8.specs.Rfc3629.{is_text}
 use Rattle.table.specs.declared.types.TagDataType.{TagDataType}
 use Rattle.table.specs.declared.types.TagDataType.TheVariants as type
 use Rattle.tag_parse.specs.Payload.{value_of, before_zero, float_or21}
 use Rattle.tag_parse.specs.declared.types.ParseError.TheVariants.{FromUtf8Error}
 use Rattle.tag_parse.specs.declared.types.Range.{Range}
-use Rattle.tag_parse.specs.declared.types.ReadValue.{ReadValue}
-use Rattle.tag_parse.specs.declared.types.ReadValue.TheVariants as got
 use Rattle.tag_parse.specs.declared.types.TagValue.{TagValue}
 use Rattle.tag_parse.specs.declared.types.TagValue.TheVariants.{Utf8}
 use Rattle.tag_writer.specs.Document.{text, binary}
 use Rattle.tag_writer.specs.ReadBack.{part, said_value}
 use Rattle.shortest.specs.Says.{SaysValue}
+use Rattle.std.specs.Prelude.{Err, Ok, Result}
+use Rattle.tag_parse.specs.declared.types.ParseError.{ParseError}
+use Rattle.tools.specs.declared.errors.ToolError.{ToolError}
 
 first_within : (test : ℕ → Bool) (l : List ℕ) → first_index test l ≤ length l
 unfolding first_index
@@ -51,21 +50,21 @@ module _ (w : List ℕ) (a n : ℕ) (whole : a + n ≤ length w) where
       ∙ ap (λ (k : ℕ). take k lying) two ∙ ap (λ (k : ℕ). take (alone.end - alone.begin) (drop k lying)) (sym c)
 
   -- what is read in w, and alone, says the same
-  abbrev Alike : ReadValue → ReadValue → Type 0
-  Alike (got.Value u) (got.Value v) = said_value w u ≡ said_value lying v
-  Alike (got.Value u) (got.Refused e) = ⊥
-  Alike (got.Refused e) (got.Value v) = ⊥
-  Alike (got.Refused e) (got.Refused f) = Unit {0}
+  abbrev Alike : Result TagValue ParseError → Result TagValue ParseError → Type 0
+  Alike (Ok u) (Ok v) = said_value w u ≡ said_value lying v
+  Alike (Ok u) (Err e) = ⊥
+  Alike (Err e) (Ok v) = ⊥
+  Alike (Err e) (Err f) = Unit {0}
 
-  text_alike : (b : Bool) (r alone : Range) → part w r ≡ part lying alone → Alike (cond b (got.Value (Utf8 r)) (got.Refused FromUtf8Error)) (cond b (got.Value (Utf8 alone)) (got.Refused FromUtf8Error))
+  text_alike : (b : Bool) (r alone : Range) → part w r ≡ part lying alone → Alike (cond b (Ok (Utf8 r)) (Err FromUtf8Error)) (cond b (Ok (Utf8 alone)) (Err FromUtf8Error))
   text_alike true r alone e = ap text e
   text_alike false r alone e = tt
 
-  float_alike : (x : ArrToF64) → Alike (float_or21 x) (float_or21 x)
-  float_alike (bits.Bits b) = refl
-  float_alike (bits.Refused e) = tt
+  float_alike : (x : Result ℕ ToolError) → Alike (float_or21 x) (float_or21 x)
+  float_alike (Ok b) = refl
+  float_alike (Err e) = tt
 
-  float_or_alike : (b : Bool) → Alike (cond b (float_or21 (bits.Bits 0)) (float_or21 (arr_to_f64 lying))) (cond b (float_or21 (bits.Bits 0)) (float_or21 (arr_to_f64 lying)))
+  float_or_alike : (b : Bool) → Alike (cond b (float_or21 (Ok 0)) (float_or21 (arr_to_f64 lying))) (cond b (float_or21 (Ok 0)) (float_or21 (arr_to_f64 lying)))
   float_or_alike true = refl
   float_or_alike false = float_alike (arr_to_f64 lying)
 
@@ -85,12 +84,12 @@ module _ (w : List ℕ) (a n : ℕ) (whole : a + n ≤ length w) where
     value_alike strict type.Untyped = refl
 
   -- a payload that is read at its place in w says alone what it says there
-  pub says_alone : (strict : Bool) (k : TagDataType) (r : Range) (v : TagValue) → r.begin ≡ a → r.end ≡ a + n → value_of strict k lying r ≡ got.Value v → SaysValue strict k lying (said_value w v)
-  says_alone strict k r v b e q = go (value_of strict k lying alone) refl (subst (λ (y : ReadValue). Alike y (value_of strict k lying alone)) q (value_alike r alone b e refl lying_length strict k))
+  pub says_alone : (strict : Bool) (k : TagDataType) (r : Range) (v : TagValue) → r.begin ≡ a → r.end ≡ a + n → value_of strict k lying r ≡ Ok v → SaysValue strict k lying (said_value w v)
+  says_alone strict k r v b e q = go (value_of strict k lying alone) refl (subst (λ (y : Result TagValue ParseError). Alike y (value_of strict k lying alone)) q (value_alike r alone b e refl lying_length strict k))
     where
       alone : Range
       alone = record { begin = 0; end = length lying }
 
-      go : (y : ReadValue) → value_of strict k lying alone ≡ y → Alike (got.Value v) y → SaysValue strict k lying (said_value w v)
-      go (got.Value u) f same = record { told = u; read = f; same = sym same }
-      go (got.Refused x) f same = absurd same
+      go : (y : Result TagValue ParseError) → value_of strict k lying alone ≡ y → Alike (Ok v) y → SaysValue strict k lying (said_value w v)
+      go (Ok u) f same = record { told = u; read = f; same = sym same }
+      go (Err x) f same = absurd same

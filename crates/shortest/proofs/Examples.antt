@@ -15,14 +15,14 @@ use Rattle.tag_writer.specs.Counts.{children_in, element_counts}
 use Rattle.tag_writer.specs.Items.{marks_of}
 use Rattle.tag_writer.specs.ReadBack.{said_counts, IsReadAs}
 use Rattle.tag_writer.specs.Write.{write}
-use Rattle.tag_writer.specs.declared.types.Wrote.TheVariants.{Written}
 use Rattle.tag_writer.proofs.Computing.{writer_computes}
 use Rattle.written.specs.Cut.{written}
 use Rattle.shortest.specs.Shortest.{is_plain}
+use Rattle.std.specs.Prelude.{Ok}
 
 -- the items are written in this many bytes, and other, fewer ones are read as them, though not all of them plainly
 pub record Shorter (items vals : List ℕ) (size : ℕ) (other : List ℕ) (fewer : ℕ) : Type 0 where
-  pub is_written : (write bench_entries bench_parts items vals (replicate size 7)).0 ≡ Written size
+  pub is_written : (write bench_entries bench_parts items vals (replicate size 7)).0 ≡ Ok size
   pub is_read : IsReadAs false bench_entries bench_parts other (marks_of vals items)
   pub count : length other ≡ fewer
   pub not_plain : every (is_plain bench other) is_read.events ≡ false

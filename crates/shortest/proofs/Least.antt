@@ -19,8 +19,6 @@ use Rattle.tools.specs.Float.{arr_to_f64}
 use Rattle.tools.specs.Integer.{integer_of}
 use Rattle.tools.specs.Twos.{signed_of, bits_of}
 use Rattle.tools.specs.Vint.{Least, vint_width, all_ones}
-use Rattle.tools.specs.declared.float.ArrToF64.{ArrToF64}
-use Rattle.tools.specs.declared.float.ArrToF64.TheVariants as bits
 use Rattle.tools.proofs.BigEndian.{length-be_bytes, be_lt, octets_take}
 use Rattle.tools.proofs.Least.{least}
 use Rattle.tools.proofs.Signed.{payload_range}
@@ -33,8 +31,6 @@ use Rattle.tag_parse.specs.Payload.{before_zero, value_of, float_or21}
 use Rattle.tag_parse.specs.declared.types.EBMLSize.TheVariants.{Known, Unknown}
 use Rattle.tag_parse.specs.declared.types.ParseError.TheVariants.{FromUtf8Error}
 use Rattle.tag_parse.specs.declared.types.Range.{Range}
-use Rattle.tag_parse.specs.declared.types.ReadValue.{ReadValue}
-use Rattle.tag_parse.specs.declared.types.ReadValue.TheVariants as got
 use Rattle.tag_parse.specs.declared.types.TagValue.TheVariants.{Utf8}
 use Rattle.tag_parse.proofs.Cases.{octets_drop}
 use Rattle.tag_parse.proofs.Headers.{header_sound}
@@ -43,6 +39,10 @@ use Rattle.tag_writer.specs.Document.{Value, Element, value, master, Run, none, 
 use Rattle.tag_writer.specs.ReadBack.{part, said_value}
 use Rattle.tag_writer.proofs.WidthLaws.{id_length_lem, header_length_lem, unsigned_least, integer_least}
 use Rattle.shortest.specs.Says.{Headed, SaysValue, is_float, SaysDatum, SaysElement, Says}
+use Rattle.std.specs.Prelude.{Err, Ok, Result}
+use Rattle.tag_parse.specs.declared.types.ParseError.{ParseError}
+use Rattle.tag_parse.specs.declared.types.TagValue.{TagValue}
+use Rattle.tools.specs.declared.errors.ToolError.{ToolError}
 
 -- ---- widths
 
@@ -105,9 +105,9 @@ integer_least_bytes (negsuc n) k some h = rw (length-be_bytes (integer_width (ne
 
 module _ (s : List ℕ) (byte : Octets s) where
   -- what is read of the payload s is written in no more bytes; a float where it has 8
-  abbrev NoMore : ReadValue → Type 0
-  NoMore (got.Value v) = (is_float (said_value s v) ≡ true → length s ≡ 8) → length (payload (said_value s v)) ≤ length s
-  NoMore (got.Refused e) = Unit {0}
+  abbrev NoMore : Result TagValue ParseError → Type 0
+  NoMore (Ok v) = (is_float (said_value s v) ≡ true → length s ≡ 8) → length (payload (said_value s v)) ≤ length s
+  NoMore (Err e) = Unit {0}
 
   part_least : (r : Range) → length (part s r) ≤ length s
   part_least r = omega (arith, length-take (r.end - r.begin) (drop r.begin s), length-drop r.begin s)
@@ -125,15 +125,15 @@ module _ (s : List ℕ) (byte : Octets s) where
           let some : 1 ≤ length s = omega (arith, not_None) in
           integer_least_bytes it (length s) some (payload_range s byte some)
 
-  text_of : (b : Bool) (r : Range) → NoMore (cond b (got.Value (Utf8 r)) (got.Refused FromUtf8Error))
+  text_of : (b : Bool) (r : Range) → NoMore (cond b (Ok (Utf8 r)) (Err FromUtf8Error))
   unfolding payload
   text_of true r = λ wide. part_least r
   text_of false r = tt
 
-  float_of : (a : ArrToF64) → NoMore (float_or21 a)
+  float_of : (a : Result ℕ ToolError) → NoMore (float_or21 a)
   unfolding payload
-  float_of (bits.Bits b) = λ wide. omega (arith, length-be_bytes 8 b, wide refl)
-  float_of (bits.Refused e) = tt
+  float_of (Ok b) = λ wide. omega (arith, length-be_bytes 8 b, wide refl)
+  float_of (Err e) = tt
 
   read_least : (strict : Bool) (k : TagDataType) (r : Range) → NoMore (value_of strict k s r)
   unfolding value_of payload
@@ -142,7 +142,7 @@ module _ (s : List ℕ) (byte : Octets s) where
   read_least true type.Utf8 r = text_of (is_text (take (before_zero s) s)) _
   read_least false type.Utf8 r = text_of (is_text s) r
   read_least strict type.Binary r = λ wide. part_least r
-  read_least strict type.Float r = either NoMore (eqb (length s) 0) _ _ (float_of (bits.Bits 0)) (float_of (arr_to_f64 s))
+  read_least strict type.Float r = either NoMore (eqb (length s) 0) _ _ (float_of (Ok 0)) (float_of (arr_to_f64 s))
   read_least strict type.Master r = λ wide. omega arith
   read_least strict type.Untyped r = λ wide. omega arith
 

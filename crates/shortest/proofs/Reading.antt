@@ -17,15 +17,11 @@ use Rattle.basics.proofs.Bools.{both, absurd_eq}
 use Rattle.tools.specs.Bytes.{Octets}
 use Rattle.table.specs.Check.{check_table}
 use Rattle.table.specs.Table.{Entry, table_of}
-use Rattle.table.specs.declared.types.Checked.TheVariants.{Passed}
 use Rattle.table.specs.declared.types.TagDataType.TheVariants.{Master}
 use Rattle.tag_parse.specs.Header.{read_header}
 use Rattle.tag_parse.specs.Payload.{value_of}
 use Rattle.tag_parse.specs.declared.types.EBMLSize.{EBMLSize}
 use Rattle.tag_parse.specs.declared.types.EBMLSize.TheVariants.{Known, Unknown}
-use Rattle.tag_parse.specs.declared.types.ReadHeader.{ReadHeader}
-use Rattle.tag_parse.specs.declared.types.ReadHeader.TheVariants as header
-use Rattle.tag_parse.specs.declared.types.ReadValue.TheVariants as got
 use Rattle.tag_parse.specs.declared.types.TagHeader.{TagHeader}
 use Rattle.tag_parse.specs.declared.types.TagValue.{TagValue}
 use Rattle.tag_parse.specs.declared.types.TagValue.TheVariants as value
@@ -38,7 +34,6 @@ use Rattle.decoder_rules.specs.declared.types.Answer.{Answer}
 use Rattle.decoder_rules.specs.declared.types.Answer.TheVariants as answer
 use Rattle.decoder_rules.specs.declared.types.Event.{Event}
 use Rattle.decoder_rules.specs.declared.types.Event.TheVariants as handed
-use Rattle.decoder_rules.specs.declared.types.Optional.TheVariants.{Number}
 use Rattle.decoder_rules.specs.declared.types.WaitingEnd.{WaitingEnd}
 use Rattle.tag_decoder.proofs.CallLaws.{end_takes_nothing}
 use Rattle.tag_decoder_laws.proofs.AppendedBytes.{need_more_takes_none}
@@ -56,11 +51,16 @@ use Rattle.tag_writer.proofs.Marks.{matched_marks}
 use Rattle.shortest.specs.Says.{is_float, SaysDatum, SaysElement, Says}
 use Rattle.shortest.specs.Shortest.{is_known_size, has_known_size, is_plain}
 use Rattle.shortest.proofs.Alone.{says_alone}
+use Rattle.std.specs.Prelude.{Err, Ok, Result, Some}
+use Rattle.tag_parse.specs.declared.types.ParseError.{ParseError}
+use Rattle.decoder_rules.specs.declared.types.Refusal.{Refusal}
+use Rattle.tools.specs.declared.status.Status.{Status}
+use Rattle.tools.specs.declared.status.Status.TheVariants as status
 
 -- ---- sizes
 
 -- a header that was read of a known size that passes the test
-known_size_lem : (test : ℕ → Bool) (r : ReadHeader) (h : TagHeader) → r ≡ header.Header h → has_known_size test r ≡ true → (n : ℕ) × (h.size ≡ Known n) × (test n ≡ true)
+known_size_lem : (test : ℕ → Bool) (r : Result (Status TagHeader) ParseError) (h : TagHeader) → r ≡ Ok (status.Complete h) → has_known_size test r ≡ true → (n : ℕ) × (h.size ≡ Known n) × (test n ≡ true)
 known_size_lem test r h e k = go h.size refl (sym (ap (has_known_size test) e) ∙ k)
   where
     go : (z : EBMLSize) → h.size ≡ z → is_known_size test z ≡ true → (n : ℕ) × (h.size ≡ Known n) × (test n ≡ true)
@@ -68,25 +68,25 @@ known_size_lem test r h e k = go h.size refl (sym (ap (has_known_size test) e) �
     go (Known n) q f = (n, q, f)
 
 -- where it ends
-ends_at : (t : List Entry) (s : List ℕ) (p n : ℕ) (h : TagHeader) → read_header t s ≡ header.Header h → h.size ≡ Known n → declared_end t p s ≡ Number (p + h.len + n)
+ends_at : (t : List Entry) (s : List ℕ) (p n : ℕ) (h : TagHeader) → read_header t s ≡ Ok (status.Complete h) → h.size ≡ Known n → declared_end t p s ≡ Some (p + h.len + n)
 unfolding declared_end
 ends_at t s p n h e k = ap (header_end p) e ∙ ap (end_after (p + h.len)) k
 
 -- what was read is one header
-one_header : {r : ReadHeader} {g h : TagHeader} → r ≡ header.Header g → r ≡ header.Header h → g ≡ h
+one_header : {r : Result (Status TagHeader) ParseError} {g h : TagHeader} → r ≡ Ok (status.Complete g) → r ≡ Ok (status.Complete h) → g ≡ h
 one_header e f = cc
 
 -- where a master that ends at f is opened, inside all that are open, a place that does not pass f passes no end
-opened_inside : (p f : ℕ) (m : Started) (l : List Started) → p ≤ f → m.end ≡ Number f → EndsInside f l → EndsInside p (m ∷ l)
+opened_inside : (p f : ℕ) (m : Started) (l : List Started) → p ≤ f → m.end ≡ Some f → EndsInside f l → EndsInside p (m ∷ l)
 opened_inside p f m l h e all o i g d = ⊎_elim here (λ j. let le = all o j g d in omega (arith, le, h)) (Memᴰ.cases_cons i)
   where
     here : o ≡ m → p ≤ g
     here same =
-        let q : Number f ≡ Number g = sym e ∙ ap (λ (z : Started). z.end) (sym same) ∙ d in
+        let q : Some f ≡ Some g = sym e ∙ ap (λ (z : Started). z.end) (sym same) ∙ d in
         let it : f ≡ g = cc in
         omega (arith, it, h)
 
-module _ (es ps w : List ℕ) (strict : Bool) (checked : check_table es ps ≡ Passed) (byte : Octets w) where
+module _ (es ps w : List ℕ) (strict : Bool) (checked : check_table es ps ≡ (Ok tt)) (byte : Octets w) where
   abbrev t : List Entry
   t = table_of es ps
 
@@ -100,7 +100,7 @@ module _ (es ps w : List ℕ) (strict : Bool) (checked : check_table es ps ≡ P
   abbrev after : List Call → List Call
   after cs = decoding (unread cs) ∷ cs
 
-  abbrev answer_to : List Call → Answer
+  abbrev answer_to : List Call → Result Answer Refusal
   answer_to cs = (decode es ps (record_after es ps cs) (unread cs)).answer
 
   abbrev taken_by : List Call → ℕ
@@ -109,24 +109,24 @@ module _ (es ps w : List ℕ) (strict : Bool) (checked : check_table es ps ≡ P
   -- after these calls come these events, and then nothing is unread
   unfoldable Tells : List Call → List Event → Type 0
   Tells cs [] = unread cs ≡ []
-  Tells cs (e ∷ evs) = (answer_to cs ≡ answer.Event e) × Tells (after cs) evs
+  Tells cs (e ∷ evs) = (answer_to cs ≡ Ok (answer.Event e)) × Tells (after cs) evs
 
   unread_after : (cs : List Call) → drop (taken_by cs) (unread cs) ≡ unread (after cs)
   unfolding history position
   unread_after cs = drop-drop (taken_by cs) (position_at es ps cs) w
 
   -- the calls from the next one on, n of them after it, where it answers a
-  abbrev goes : ℕ → List Call → Answer → Calls
+  abbrev goes : ℕ → List Call → Result Answer Refusal → Calls
   goes n cs a = goes_on_with (in_a_row (decode es ps) n) a (record { told = told_by a; taken = taken_by cs }) (record_after es ps (after cs)) (drop (taken_by cs) (unread cs))
 
   abbrev told_in : Calls → List Told
   told_in c = map (λ x. x.told) c.calls
 
-  last_tells : (cs : List Call) (a : Answer) → answer_to cs ≡ a → told_in (goes 0 cs a) ≡ need_more least_header ∷ [] → (goes 0 cs a).rest ≡ [] → unread cs ≡ []
-  last_tells cs (answer.Event e) f q r = let z : ◌≡◌ {A = ℕ} 0 1 = cc in absurd_eq z
-  last_tells cs (answer.NeedMore m) f q r = ap (λ (n : ℕ). drop n (unread cs)) (sym (need_more_takes_none es ps (record_after es ps cs) (unread cs) (rw f))) ∙ r
-  last_tells cs answer.Finished f q r = let z : ◌≡◌ {A = ℕ} 0 1 = cc in absurd_eq z
-  last_tells cs (answer.Refused e) f q r = let z : ◌≡◌ {A = ℕ} 0 1 = cc in absurd_eq z
+  last_tells : (cs : List Call) (a : Result Answer Refusal) → answer_to cs ≡ a → told_in (goes 0 cs a) ≡ need_more least_header ∷ [] → (goes 0 cs a).rest ≡ [] → unread cs ≡ []
+  last_tells cs (Ok (answer.Event e)) f q r = let z : ◌≡◌ {A = ℕ} 0 1 = cc in absurd_eq z
+  last_tells cs (Ok (answer.NeedMore m)) f q r = ap (λ (n : ℕ). drop n (unread cs)) (sym (need_more_takes_none es ps (record_after es ps cs) (unread cs) (rw f))) ∙ r
+  last_tells cs (Ok answer.Finished) f q r = let z : ◌≡◌ {A = ℕ} 0 1 = cc in absurd_eq z
+  last_tells cs (Err e) f q r = let z : ◌≡◌ {A = ℕ} 0 1 = cc in absurd_eq z
 
   -- these events are told after these calls, then need more with no byte left
   abbrev ToldAfter : List Call → List Event → Type 0
@@ -134,17 +134,17 @@ module _ (es ps w : List ℕ) (strict : Bool) (checked : check_table es ps ≡ P
       let c = decode_calls (suc (length evs)) es ps (record_after es ps cs) (unread cs) in
       (told_in c ≡ map event evs ++ (need_more least_header ∷ [])) × (c.rest ≡ [])
 
-  first_tells : (e : Event) (evs : List Event) (cs : List Call) (a : Answer) → answer_to cs ≡ a → told_in (goes (suc (length evs)) cs a) ≡ event e ∷ (map event evs ++ (need_more least_header ∷ []))
-      → (goes (suc (length evs)) cs a).rest ≡ [] → (answer_to cs ≡ answer.Event e) × ToldAfter (after cs) evs
+  first_tells : (e : Event) (evs : List Event) (cs : List Call) (a : Result Answer Refusal) → answer_to cs ≡ a → told_in (goes (suc (length evs)) cs a) ≡ event e ∷ (map event evs ++ (need_more least_header ∷ []))
+      → (goes (suc (length evs)) cs a).rest ≡ [] → (answer_to cs ≡ Ok (answer.Event e)) × ToldAfter (after cs) evs
   unfolding record_after
-  first_tells e evs cs (answer.Event x) f q r =
+  first_tells e evs cs (Ok (answer.Event x)) f q r =
       let same : event x ≡ event e = head-eq_of_cons-eq q in
       let it : x ≡ e = cc in
       let left = unread_after cs in
-      (f ∙ ap answer.Event it, (rw (← left) (tail-eq_of_cons-eq q), rw (← left) r))
-  first_tells e evs cs (answer.NeedMore m) f q r = let z : ◌≡◌ {A = ℕ} 0 1 = cc in absurd_eq z
-  first_tells e evs cs answer.Finished f q r = let z : ◌≡◌ {A = ℕ} 0 1 = cc in absurd_eq z
-  first_tells e evs cs (answer.Refused x) f q r = let z : ◌≡◌ {A = ℕ} 0 1 = cc in absurd_eq z
+      (f ∙ ap (λ e. Ok (answer.Event e)) it, (rw (← left) (tail-eq_of_cons-eq q), rw (← left) r))
+  first_tells e evs cs (Ok (answer.NeedMore m)) f q r = let z : ◌≡◌ {A = ℕ} 0 1 = cc in absurd_eq z
+  first_tells e evs cs (Ok answer.Finished) f q r = let z : ◌≡◌ {A = ℕ} 0 1 = cc in absurd_eq z
+  first_tells e evs cs (Err x) f q r = let z : ◌≡◌ {A = ℕ} 0 1 = cc in absurd_eq z
 
   -- the calls that `IsReadAs` speaks of are such
   tells : (evs : List Event) (cs : List Call) → ToldAfter cs evs → Tells cs evs
@@ -178,12 +178,12 @@ module _ (es ps w : List ℕ) (strict : Bool) (checked : check_table es ps ≡ P
     place = within es ps w cs (decoding (unread cs)) (octets_drop (position_at es ps cs) w byte) ([], append-nil (unread cs)) k.place;
   }
 
-  module _ (cs : List Call) (k : Calm cs) (e : Event) (a : answer_to cs ≡ answer.Event e) where
-    responds : last_response es ps cs (decoding (unread cs)) ≡ answered (answer.Event e) (taken_by cs)
-    responds = ap (λ (x : Answer). answered x (taken_by cs)) a
+  module _ (cs : List Call) (k : Calm cs) (e : Event) (a : answer_to cs ≡ Ok (answer.Event e)) where
+    responds : last_response es ps cs (decoding (unread cs)) ≡ answered (Ok (answer.Event e)) (taken_by cs)
+    responds = ap (λ (x : Result Answer Refusal). answered x (taken_by cs)) a
 
     -- the masters that are open after it
-    open_after : open_at es ps (after cs) ≡ after_response t (unread cs) (answered (answer.Event e) (taken_by cs)) (open_at es ps cs)
+    open_after : open_at es ps (after cs) ≡ after_response t (unread cs) (answered (Ok (answer.Event e)) (taken_by cs)) (open_at es ps cs)
     unfolding history starts_open
     open_after = ap (λ (x : Response). after_response t (unread cs) x (open_at es ps cs)) responds
 
@@ -197,14 +197,14 @@ module _ (es ps w : List ℕ) (strict : Bool) (checked : check_table es ps ≡ P
     head : HeaderOf t (unread cs) e
     fits : (n : ℕ) → head.its.size ≡ Known n → EndsInside (position_at es ps cs + head.its.len + n) (open_at es ps cs)
 
-  heading : (cs : List Call) → Calm cs → (e : Event) → answer_to cs ≡ answer.Event e → (o : ℕ) → element_offset e ≡ Number o → Heading cs e o
+  heading : (cs : List Call) → Calm cs → (e : Event) → answer_to cs ≡ Ok (answer.Event e) → (o : ℕ) → element_offset e ≡ Some o → Heading cs e o
   heading cs k e a o i =
       let c = decoding (unread cs) in
       let run = runs_after cs k in
-      let q : Answers es ps cs c (answer.Event e) = (taken_by cs, responds cs k e a) in
+      let q : Answers es ps cs c (Ok (answer.Event e)) = (taken_by cs, responds cs k e a) in
       let at : o ≡ position_at es ps cs = offset_is_position es ps cs c run e o i q in
       let head : HeaderOf t (unread cs) e = element_header es ps cs c run e o i q in
-      let ends : (n : ℕ) → head.its.size ≡ Known n → declared_end t o (unread cs) ≡ Number (position_at es ps cs + head.its.len + n) =
+      let ends : (n : ℕ) → head.its.size ≡ Known n → declared_end t o (unread cs) ≡ Some (position_at es ps cs + head.its.len + n) =
       λ n f. ap (λ (z : ℕ). declared_end t z (unread cs)) at ∙ ends_at t (unread cs) (position_at es ps cs) n head.its head.read f in
       record { at = at; head = head; fits = λ n f. ends_inside es ps cs c run (never_off_on cs k.on) e o (position_at es ps cs + head.its.len + n) i q (ends n f) }
 
@@ -223,7 +223,7 @@ module _ (es ps w : List ℕ) (strict : Bool) (checked : check_table es ps ≡ P
   -- ---- a Data
 
   -- of a float, its size
-  wide_is : (o n : ℕ) (v : TagValue) (h : TagHeader) → read_header t (drop o w) ≡ header.Header h → h.size ≡ Known n → is_plain t w (handed.Data 0 o v) ≡ true → is_float (said_value w v) ≡ true → n ≡ 8
+  wide_is : (o n : ℕ) (v : TagValue) (h : TagHeader) → read_header t (drop o w) ≡ Ok (status.Complete h) → h.size ≡ Known n → is_plain t w (handed.Data 0 o v) ≡ true → is_float (said_value w v) ≡ true → n ≡ 8
   wide_is o n (value.UnsignedInt m) h r k p f = absurd (false≢true f)
   wide_is o n (value.Integer z) h r k p f = absurd (false≢true f)
   wide_is o n (value.Utf8 x) h r k p f = absurd (false≢true f)
@@ -241,7 +241,7 @@ module _ (es ps w : List ℕ) (strict : Bool) (checked : check_table es ps ≡ P
     opened : open_at es ps (after cs) ≡ open_at es ps cs
     says : SaysDatum strict t (unread cs) x v (unread (after cs))
 
-  data-read : (cs : List Call) → Calm cs → (x o : ℕ) (v : TagValue) → answer_to cs ≡ answer.Event (handed.Data x o v) → is_plain t w (handed.Data x o v) ≡ true → Datum cs x (said_value w v)
+  data-read : (cs : List Call) → Calm cs → (x o : ℕ) (v : TagValue) → answer_to cs ≡ Ok (answer.Event (handed.Data x o v)) → is_plain t w (handed.Data x o v) ≡ true → Datum cs x (said_value w v)
   data-read cs k x o v a plain =
       let p = position_at es ps cs in
       let e = handed.Data x o v in
@@ -259,7 +259,7 @@ module _ (es ps w : List ℕ) (strict : Bool) (checked : check_table es ps ≡ P
       let whole : h.len + d.size ≤ length (unread cs) = omega (arith, d.count, d.within, len) in
       let lies : p + h.len + d.size ≤ length w = omega (arith, whole, length-drop p w, k.place) in
       let from : drop h.len (unread cs) ≡ drop (p + h.len) w = drop-drop h.len p w in
-      let read : value_of strict h.kind (take d.size (drop (p + h.len) w)) (record { begin = o + h.len; end = o + n }) ≡ got.Value v = rw (← from, ← one) d.value in
+      let read : value_of strict h.kind (take d.size (drop (p + h.len) w)) (record { begin = o + h.len; end = o + n }) ≡ Ok v = rw (← from, ← one) d.value in
       let says = says_alone w (p + h.len) d.size lies strict h.kind (record { begin = o + h.len; end = o + n }) v (omega (arith, g.at)) (omega (arith, g.at, d.count, len)) read in
       let last : unread (after cs) ≡ drop (h.len + d.size) (unread cs) = sym (unread_after cs) ∙ (let z : n ≡ h.len + d.size = omega (arith, d.count, len) in ap (λ (z : ℕ). drop z (unread cs)) z) in
       record {
@@ -299,12 +299,12 @@ module _ (es ps w : List ℕ) (strict : Bool) (checked : check_table es ps ≡ P
   record Inside (cs : List Call) (x : ℕ) (l : List Started) (rest : List Mark) : Type 0 where
     its : TagHeader
     size : ℕ
-    read : read_header t (unread cs) ≡ header.Header its
+    read : read_header t (unread cs) ≡ Ok (status.Complete its)
     id : its.id ≡ x
     kind : its.kind ≡ Master
     known : its.size ≡ Known size
     it : Started
-    ends : it.end ≡ Number (position_at es ps cs + its.len + size)
+    ends : it.end ≡ Some (position_at es ps cs + its.len + size)
     at : At (it ∷ l) rest
     place : position_at es ps at.calls ≡ position_at es ps cs + its.len
 
@@ -326,7 +326,7 @@ module _ (es ps w : List ℕ) (strict : Bool) (checked : check_table es ps ≡ P
           let alone : HeaderAlone t (unread cs) (taken_by cs) = start_takes_header es ps cs (decoding (unread cs)) (runs_after cs a.calm) x o (taken_by cs) (responds cs a.calm e tell.0) in
           let len : taken_by cs ≡ h.len = alone.no_more ∙ ap (λ (z : TagHeader). z.len) (one_header alone.read g.head.read) in
           let k = known_size_lem (λ m. true) (read_header t (drop o w)) h (ap (λ (z : ℕ). read_header t (drop z w)) g.at ∙ g.head.read) plain in
-          let ends : declared_end t o (unread cs) ≡ Number (p + h.len + k.0) = ap (λ (z : ℕ). declared_end t z (unread cs)) g.at ∙ ends_at t (unread cs) p k.0 h g.head.read k.1 in
+          let ends : declared_end t o (unread cs) ≡ Some (p + h.len + k.0) = ap (λ (z : ℕ). declared_end t z (unread cs)) g.at ∙ ends_at t (unread cs) p k.0 h g.head.read k.1 in
           let m : Started = record { id = x; offset = o; end = declared_end t o (unread cs) } in
           let opened : open_at es ps (after cs) ≡ m ∷ open_at es ps cs = open_after cs a.calm e tell.0 in
           let place : position_at es ps (after cs) ≡ p + h.len = place_after cs a.calm e tell.0 ∙ ap (λ (z : ℕ). p + z) len in
@@ -370,7 +370,7 @@ module _ (es ps w : List ℕ) (strict : Bool) (checked : check_table es ps ≡ P
     at : At l rest
     place : position_at es ps at.calls ≡ position_at es ps cs
 
-  end_read : (x f : ℕ) (m : Started) (l : List Started) (rest : List Mark) → m.end ≡ Number f → (a : At (m ∷ l) (end x ∷ rest)) → Outside a.calls f l rest
+  end_read : (x f : ℕ) (m : Started) (l : List Started) (rest : List Mark) → m.end ≡ Some f → (a : At (m ∷ l) (end x ∷ rest)) → Outside a.calls f l rest
   unfolding Tells every
   end_read x f m l rest ends a = go a.events a.told a.same a.plain
     where

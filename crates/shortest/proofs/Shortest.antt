@@ -15,13 +15,11 @@ use Rattle.table.specs.Table.{Entry, table_of, data_type_of}
 use Rattle.table.proofs.Rules.{master_is}
 use Rattle.tag_parse.specs.Header.{numeric, read_header}
 use Rattle.tag_parse.specs.declared.types.Range.{Range}
-use Rattle.tag_parse.specs.declared.types.ReadHeader.TheVariants as header
 use Rattle.decoder_rules.specs.OneCall.{good_form}
 use Rattle.tag_writer.specs.Document.{Value, unsigned, integer, text, binary, float, wrong, Element, value, master, Run, none, then, payload, header_bytes, size_of_run, element_bytes, run_bytes}
 use Rattle.tag_writer.specs.Items.{Mark, datum, marks_of, run_of, run_marks}
 use Rattle.tag_writer.specs.ReadBack.{part, said_value, is_taken}
 use Rattle.tag_writer.specs.Write.{is_of_kind, good_element, good_run, write}
-use Rattle.tag_writer.specs.declared.types.Wrote.TheVariants.{Written}
 use Rattle.tag_writer.proofs.Asked.{asked_value, asked_master, asked_run}
 use Rattle.tag_writer.proofs.HeaderBack.{head_of, header_back}
 use Rattle.tag_writer.proofs.InRange.{fits_run, marks_fit}
@@ -36,6 +34,8 @@ use Rattle.shortest.specs.Says.{SaysValue, is_float, SaysElement, Says}
 use Rattle.shortest.specs.Shortest.{IsShortest}
 use Rattle.shortest.proofs.Least.{run_least}
 use Rattle.shortest.proofs.Reading.{read_says}
+use Rattle.std.specs.Prelude.{Ok}
+use Rattle.tools.specs.declared.status.Status.TheVariants as status
 
 -- ---- it says its document
 
@@ -83,7 +83,7 @@ module _ (strict : Bool) (t : List Entry) where
         let H = header_bytes x n in
         let g = asked_value t opened x v good in
         let split = append_assoc H P rest in
-        let read : read_header t ((H ++ P) ++ rest) ≡ header.Header (head_of t x n) =
+        let read : read_header t ((H ++ P) ++ rest) ≡ Ok (status.Complete (head_of t x n)) =
         ap (read_header t) split ∙ header_back t x n (P ++ rest) g.back (omega (arith, g.size)) (value_short (data_type_of t x) v g.kind) in
         let whole : length H + n ≤ length ((H ++ P) ++ rest) = omega (arith, length-append (H ++ P) rest, length-append H P) in
         let left : rest ≡ drop (length H + n) ((H ++ P) ++ rest) = sym (drop_at (H ++ P) rest (length H + n) (length-append H P)) in
@@ -100,7 +100,7 @@ module _ (strict : Bool) (t : List Entry) where
         let g = asked_master t opened x r good in
         let kind = master_is (data_type_of t x) g.kind in
         let split = append_assoc H (run_bytes r) rest in
-        let read : read_header t ((H ++ run_bytes r) ++ rest) ≡ header.Header (head_of t x n) =
+        let read : read_header t ((H ++ run_bytes r) ++ rest) ≡ Ok (status.Complete (head_of t x n)) =
         ap (read_header t) split ∙ header_back t x n (run_bytes r ++ rest) g.back (omega (arith, g.size)) (not_numeric (data_type_of t x) n (ap numeric kind)) in
         let size : length (H ++ run_bytes r) ≡ length H + n = length-append H (run_bytes r) ∙ ap (λ (k : ℕ). length H + k) (run_length r) in
         let whole : length H + n ≤ length ((H ++ run_bytes r) ++ rest) = omega (arith, length-append (H ++ run_bytes r) rest, size) in
@@ -124,7 +124,7 @@ module _ (strict : Bool) (t : List Entry) where
 
 -- ---- what the writer writes
 
-module _ (es ps items vals out : List ℕ) (n : ℕ) (e : (write es ps items vals out).0 ≡ Written n) (strict : Bool) where
+module _ (es ps items vals out : List ℕ) (n : ℕ) (e : (write es ps items vals out).0 ≡ Ok n) (strict : Bool) where
   -- it says its document, in either mode where its items are taken so
   pub written_says : Octets vals → every (is_taken strict) (marks_of vals items) ≡ true → Says strict (table_of es ps) (written es ps items vals out n) (run_of (marks_of vals items)) []
   written_says byte taken =

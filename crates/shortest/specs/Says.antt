@@ -1,26 +1,25 @@
 -- Which bytes say a document with known sizes, and floats in 8 bytes. RFC 8794, section 3: an element is its ID, its
 -- data size and its data, and a Master's data are its children. A size and a number may stand in more bytes than they
 -- need (sections 4 and 7), so that many bytes say the same document.
-use Rattle.std.specs.Prelude.{ℕ, ◌+◌, ◌≤◌, ◌≡◌, Bool, true, false, List, length, take, drop}
+use Rattle.std.specs.Prelude.{ℕ, ◌+◌, ◌≤◌, ◌≡◌, Bool, true, false, List, length, take, drop, Ok}
 use Rattle.table.specs.Table.{Entry}
 use Rattle.table.specs.declared.types.TagDataType.{TagDataType}
 use Rattle.table.specs.declared.types.TagDataType.TheVariants.{Master}
 use Rattle.tag_parse.specs.Header.{read_header}
 use Rattle.tag_parse.specs.Payload.{value_of}
 use Rattle.tag_parse.specs.declared.types.EBMLSize.TheVariants.{Known}
-use Rattle.tag_parse.specs.declared.types.ReadHeader.TheVariants.{Header}
-use Rattle.tag_parse.specs.declared.types.ReadValue.TheVariants as payload
 use Rattle.tag_parse.specs.declared.types.TagHeader.{TagHeader}
 use Rattle.tag_parse.specs.declared.types.TagValue.{TagValue}
 use Rattle.tag_writer.specs.Document.{Value, unsigned, integer, text, binary, float, wrong, Element, value, master, Run, none, then}
 use Rattle.tag_writer.specs.ReadBack.{said_value}
+use Rattle.tools.specs.declared.status.Status.TheVariants as status
 
 -- ---- one element
 
 -- at the front of s stands a header of the ID x with the known size n; all that it says is there, and u stands after it
 pub record Headed (t : List Entry) (s : List ℕ) (x n : ℕ) (u : List ℕ) : Type 0 where
   pub its : TagHeader
-  pub read : read_header t s ≡ Header its
+  pub read : read_header t s ≡ Ok (status.Complete its)
   pub id : its.id ≡ x
   pub known : its.size ≡ Known n
   pub whole : its.len + n ≤ length s
@@ -29,7 +28,7 @@ pub record Headed (t : List Entry) (s : List ℕ) (x n : ℕ) (u : List ℕ) : T
 -- the payload s of this type is read as the value v, strictly or as ported
 pub record SaysValue (strict : Bool) (kind : TagDataType) (s : List ℕ) (v : Value) : Type 0 where
   pub told : TagValue
-  pub read : value_of strict kind s (record { begin = 0; end = length s }) ≡ payload.Value told
+  pub read : value_of strict kind s (record { begin = 0; end = length s }) ≡ Ok told
   pub same : said_value s told ≡ v
 
 -- whether a value is a float

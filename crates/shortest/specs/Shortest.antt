@@ -1,15 +1,13 @@
 -- What is written is the shortest: no fewer bytes say the same document with known sizes, and floats in 8 bytes. Both
 -- are asked for: the writer's floats take 8 bytes, where some could be said in 4, and 0.0 in none; and an unknown size
 -- takes one byte, where a size over 126 takes more (proofs/Examples.antt has bytes of each).
-use Rattle.std.specs.Prelude.{ℕ, ◌≤◌, ◌≡◌, Bool, true, false, List, [], eqb, length, drop}
+use Rattle.std.specs.Prelude.{ℕ, ◌≤◌, ◌≡◌, Bool, true, false, List, [], eqb, length, drop, Err, Ok, Result}
 use Rattle.basics.specs.Lists.{every}
 use Rattle.tools.specs.Bytes.{Octets}
 use Rattle.table.specs.Table.{Entry, table_of}
 use Rattle.tag_parse.specs.Header.{read_header}
 use Rattle.tag_parse.specs.declared.types.EBMLSize.{EBMLSize}
 use Rattle.tag_parse.specs.declared.types.EBMLSize.TheVariants.{Known, Unknown}
-use Rattle.tag_parse.specs.declared.types.ReadHeader.{ReadHeader}
-use Rattle.tag_parse.specs.declared.types.ReadHeader.TheVariants as header
 use Rattle.tag_parse.specs.declared.types.TagValue.{TagValue}
 use Rattle.tag_parse.specs.declared.types.TagValue.TheVariants as value
 use Rattle.decoder_rules.specs.declared.types.Event.{Event}
@@ -17,6 +15,10 @@ use Rattle.decoder_rules.specs.declared.types.Event.TheVariants as handed
 use Rattle.tag_writer.specs.Items.{Mark, run_of}
 use Rattle.tag_writer.specs.ReadBack.{IsReadAs}
 use Rattle.shortest.specs.Says.{Says}
+use Rattle.tag_parse.specs.declared.types.ParseError.{ParseError}
+use Rattle.tools.specs.declared.status.Status.{Status}
+use Rattle.tag_parse.specs.declared.types.TagHeader.{TagHeader}
+use Rattle.tools.specs.declared.status.Status.TheVariants as status
 
 -- ---- the sizes that were read
 
@@ -26,10 +28,10 @@ is_known_size test Unknown = false
 is_known_size test (Known n) = test n
 
 -- whether a header of such a size was read
-abbrev pub has_known_size : (ℕ → Bool) → ReadHeader → Bool
-has_known_size test (header.NeedMore missing) = false
-has_known_size test (header.Refused e) = false
-has_known_size test (header.Header h) = is_known_size test h.size
+abbrev pub has_known_size : (ℕ → Bool) → Result (Status TagHeader) ParseError → Bool
+has_known_size test (Ok (status.NeedMore missing)) = false
+has_known_size test (Err e) = false
+has_known_size test (Ok (status.Complete h)) = is_known_size test h.size
 
 -- whether a value that stands at the offset o of the bytes w has 8 bytes, where it is a float
 abbrev pub is_wide_at : List Entry → List ℕ → ℕ → TagValue → Bool

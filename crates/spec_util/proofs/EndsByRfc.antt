@@ -21,7 +21,6 @@ use Rattle.table.specs.Passed.{PassedTable}
 use Rattle.table.specs.declared.types.TagDataType.TheVariants.{Master}
 use Rattle.table.specs.declared.types.PathPart.{PathPart}
 use Rattle.table.specs.declared.types.PathPart.TheVariants.{Id, Global}
-use Rattle.table.specs.declared.types.Checked.TheVariants.{Passed}
 use Rattle.table.proofs.Same.{path_same, path_self}
 use Rattle.table.proofs.Entries.{untyped_path}
 use Rattle.table.proofs.Passed.{passed_gives}
@@ -29,6 +28,7 @@ use Rattle.table.proofs.Consequences.{master_of_ids_lem, path_masters, prefix_pa
 use Rattle.spec_util.specs.Ended.{is_id_of, has_id, is_parent, is_sibling, is_typed_root, is_ended_by}
 use Rattle.spec_util.specs.Rfc8794.{NotGlobal, IsParentOf, IsDirectParentOf, ShareDirectParent, EndsUnknownSize, last_part, is_ended_by_rfc, untyped_at_root}
 use Rattle.spec_util.specs.Rfc8794.EndsUnknownSize.{a_parent, a_sibling, a_root}
+use Rattle.std.specs.Prelude.{Ok}
 
 -- ---- parents
 
@@ -144,7 +144,7 @@ module _ (es ps : List ℕ) where
   abbrev t : List Entry
   t = table_of es ps
 
-  module _ (passed : check_table es ps ≡ Passed) (master id : ℕ) (m : data_type_of t master ≡ Master) where
+  module _ (passed : check_table es ps ≡ (Ok tt)) (master id : ℕ) (m : data_type_of t master ≡ Master) where
     rules : PassedTable t
     rules = passed_gives es ps passed
 
@@ -262,7 +262,7 @@ module _ (es ps : List ℕ) where
             rfc_complete t master id ((ends_agree (rw b.left)).0 b.right)
 
   -- an element whose path is all IDs ends none of the masters that its path names
-  module _ (passed : check_table es ps ≡ Passed) (id : ℕ) (typed : is_typed (data_type_of t id) ≡ true) (ids : only_ids (path_of t id) ≡ true) where
+  module _ (passed : check_table es ps ≡ (Ok tt)) (id : ℕ) (typed : is_typed (data_type_of t id) ≡ true) (ids : only_ids (path_of t id) ≡ true) where
     pub ends_no_parent : (before : List PathPart) (x : ℕ) (after : List PathPart) → path_of t id ≡ before ++ Id x ∷ after → is_ended_by t x id ≡ false
     unfolding untyped_at_root only_ids
     ends_no_parent before x after q = go (is_ended_by t x id) refl

@@ -3,6 +3,7 @@ pub mod Shown
 pub mod PlaceShown
 pub mod Tops
 pub mod Endings
+pub mod Iterating
 pub mod WalkByRfc
 pub mod EndsByRfc
 pub mod StrictEndings

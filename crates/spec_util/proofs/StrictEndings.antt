@@ -11,12 +11,12 @@ use Rattle.basics.proofs.Bools.{both, and_both, same_truth}
 use Rattle.table.specs.Table.{Entry, table_of, data_type_of, path_of, is_typed}
 use Rattle.table.specs.Check.{only_ids, check_table}
 use Rattle.table.specs.declared.types.TagDataType.TheVariants.{Master}
-use Rattle.table.specs.declared.types.Checked.TheVariants.{Passed}
 use Rattle.spec_util.specs.Ended.{is_ended_by, is_ended_strictly, is_ended_in}
 use Rattle.spec_util.specs.Walk.{unknown_and_ended, ended_tops, left_open}
 use Rattle.spec_util.specs.Rfc8794.{EndsUnknownSize, is_ended_by_rfc}
 use Rattle.spec_util.specs.declared.types.OpenTag.{OpenTag}
 use Rattle.spec_util.proofs.EndsByRfc.{rfc_sound, rfc_complete, rfc_as_ended}
+use Rattle.std.specs.Prelude.{Ok}
 
 -- ---- any table
 
@@ -63,7 +63,7 @@ module _ (es ps : List ℕ) where
   abbrev t : List Entry
   t = table_of es ps
 
-  module _ (passed : check_table es ps ≡ Passed) (master id : ℕ) (m : data_type_of t master ≡ Master) where
+  module _ (passed : check_table es ps ≡ (Ok tt)) (master id : ℕ) (m : data_type_of t master ≡ Master) where
     -- the strict test is the RFC's
     pub strictly_tested : is_ended_strictly t master id ≡ is_ended_by_rfc t master id
     unfolding is_ended_strictly is_ended_by_rfc

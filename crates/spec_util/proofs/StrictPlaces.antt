@@ -16,7 +16,6 @@ use Rattle.table.specs.Table.{Entry, table_of, data_type_of, path_of, path_ids, 
 use Rattle.table.specs.Check.{only_ids, check_table}
 use Rattle.table.specs.declared.types.PathPart.{PathPart}
 use Rattle.table.specs.declared.types.PathPart.TheVariants.{Id, Global}
-use Rattle.table.specs.declared.types.Checked.TheVariants.{Passed}
 use Rattle.spec_util.specs.Ended.{is_ended_in}
 use Rattle.spec_util.specs.Walk.{unknown_and_ended, walk_master, go_on, walk_from, ended_tops, left_open, place_along, validate_tag_path}
 use Rattle.spec_util.specs.Rfc8794.{path_names, read_one_way, stays_open}
@@ -27,6 +26,7 @@ use Rattle.spec_util.proofs.EndsByRfc.{ends_no_parent}
 use Rattle.spec_util.proofs.WalkByRfc.{accepted_in_open}
 use Rattle.spec_util.proofs.StrictEndings.{strictly_none, typed_as_ported, typed_unknown}
 use Rattle.spec_util.proofs.StrictWalkByRfc.{walk_names_strictly, accepted_ids}
+use Rattle.std.specs.Prelude.{Ok}
 
 -- the ID does not end the master strictly
 abbrev stays_strictly : List Entry → ℕ → OpenTag → Bool
@@ -126,7 +126,7 @@ module _ (es ps : List ℕ) where
   abbrev t : List Entry
   t = table_of es ps
 
-  module _ (passed : check_table es ps ≡ Passed) (id : ℕ) where
+  module _ (passed : check_table es ps ≡ (Ok tt)) (id : ℕ) where
     -- masters that are the path of an ID stay open before it
     path_stays : is_typed (data_type_of t id) ≡ true → only_ids (path_of t id) ≡ true → (ms : List OpenTag) (before after : List PathPart) → path_of t id ≡ before ++ after
         → only_ids after ≡ true → map (λ (m : OpenTag). m.id) ms ≡ path_ids after → every (stays_strictly t id) ms ≡ true

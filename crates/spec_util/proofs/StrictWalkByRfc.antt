@@ -14,7 +14,6 @@ use Rattle.basics.specs.Lists.{every, any}
 use Rattle.basics.proofs.Bools.{both, and_both, or_none, same_truth}
 use Rattle.table.specs.Table.{Entry, path_ids}
 use Rattle.table.specs.Check.{only_ids}
-use Rattle.table.specs.declared.types.Bound.{Bound}
 use Rattle.table.specs.declared.types.PathPart.{PathPart}
 use Rattle.table.specs.declared.types.PathPart.TheVariants.{Id, Global}
 use Rattle.spec_util.specs.Ended.{is_id_of}
@@ -23,6 +22,7 @@ use Rattle.spec_util.specs.Rfc8794.{in_bounds, PathNames, passes_after, path_nam
 use Rattle.spec_util.specs.declared.types.OpenTag.{OpenTag}
 use Rattle.spec_util.specs.declared.types.Walk.TheVariants.{Refuse, On}
 use Rattle.spec_util.proofs.WalkByRfc.{At, at, over_more, over_out, ends_in_global, ends_before, ends_at_end, none_over, names_sound, names_complete, names_ids}
+use Rattle.std.specs.Prelude.{Option}
 
 abbrev ids_of : List OpenTag → List ℕ
 ids_of ms = map (λ (m : OpenTag). m.id) ms
@@ -66,7 +66,7 @@ module _ (t : List Entry) (path : List PathPart) (id : ℕ) (m : OpenTag) (ms : 
       go false q = rw q
 
   -- at a Global it is the next part, or one of those in between
-  walk_global_lem : (least most : Bound) (rest : List PathPart) → At path marker (Global least most) rest
+  walk_global_lem : (least most : Option ℕ) (rest : List PathPart) → At path marker (Global least most) rest
       → walk_from true t path id marker n (m ∷ ms)
       ≡ cond (next_is rest m.id) (not (under_min n least) && walk_from true t path id (marker + 2) 0 ms)
       (not (over_max (n + 1) most) && walk_from true t path id marker (n + 1) ms)
@@ -107,7 +107,7 @@ within_start [] = tt
 within_start (Id x ∷ path) = refl
 within_start (Global least most ∷ path) = none_over [] [] 0 most
 
-module _ (test : List ℕ → Bool) (least most : Bound) where
+module _ (test : List ℕ → Bool) (least most : Option ℕ) where
   -- what passes has not counted over max
   passes_within : (n : ℕ) (parents : List ℕ) → passes_after test least most n parents ≡ true → over_max n most ≡ false
   unfolding passes_after
@@ -127,7 +127,7 @@ neither true b e = absurd (true≢false e)
 neither false b e = (refl, e)
 
 -- an ID that is not among the parents is not named after a Global
-absent : (least most : Bound) (x : ℕ) (path : List PathPart) (n : ℕ) (parents : List ℕ) → any (eqb x) parents ≡ false
+absent : (least most : Option ℕ) (x : ℕ) (path : List PathPart) (n : ℕ) (parents : List ℕ) → any (eqb x) parents ≡ false
     → passes_after (λ rest. path_names (Id x ∷ path) rest) least most n parents ≡ false
 unfolding passes_after path_names any
 absent least most x path n [] e = and-false (in_bounds least most n)
@@ -145,7 +145,7 @@ module _ (t : List Entry) (path : List PathPart) (id : ℕ) where
       rw (ne_eqb marker (length path) (λ e. omega arith), ne_eqb (marker + 1) (length path) (λ e. omega arith))
 
   -- after a Global and the ID that follows it
-  after_next : (marker x : ℕ) (least most : Bound) (rest after : List PathPart) → At path marker (Global least most) rest → rest ≡ Id x ∷ after
+  after_next : (marker x : ℕ) (least most : Option ℕ) (rest after : List PathPart) → At path marker (Global least most) rest → rest ≡ Id x ∷ after
       → drop (marker + 2) path ≡ after
   after_next marker x least most rest after a q =
       let z : marker + 1 + 1 ≡ marker + 2 = omega arith in
@@ -163,7 +163,7 @@ module _ (t : List Entry) (path : List PathPart) (id : ℕ) where
       let b = both (eqb x m.id) _ (sym (walk_id t path id m ms marker n x rest a) ∙ w) in
       and_both b.left (sym (names_start rest (ids_of ms)) ∙ later (marker + 1) 0 rest a.later (within_start rest) (rw z at b.right))
 
-  sound_global : (m : OpenTag) (ms : List OpenTag) → Sound ms → (marker n : ℕ) (least most : Bound) (rest : List PathPart)
+  sound_global : (m : OpenTag) (ms : List OpenTag) → Sound ms → (marker n : ℕ) (least most : Option ℕ) (rest : List PathPart)
       → drop marker path ≡ Global least most ∷ rest → over_max n most ≡ false → walk_from true t path id marker n (m ∷ ms) ≡ true
       → passes_after (λ after. path_names rest after) least most n (m.id ∷ ids_of ms) ≡ true
   unfolding names_from path_names passes_after in_bounds
@@ -232,7 +232,7 @@ one_way_later (Global least most ∷ Id x ∷ path) y parents e =
 one_way_later (Global least most ∷ Global low high ∷ path) y parents e = absurd (false≢true e)
 
 -- a parent that is not the next ID is not named there
-not_named : (least most : Bound) (rest : List PathPart) (y : ℕ) (parents : List ℕ) → read_one_way (Global least most ∷ rest) (y ∷ parents) ≡ true
+not_named : (least most : Option ℕ) (rest : List PathPart) (y : ℕ) (parents : List ℕ) → read_one_way (Global least most ∷ rest) (y ∷ parents) ≡ true
     → next_is rest y ≡ false → path_names rest (y ∷ parents) ≡ false
 unfolding read_one_way is_id_of path_names
 not_named least most [] y parents e q = refl
@@ -254,7 +254,7 @@ module _ (t : List Entry) (path : List PathPart) (id : ℕ) where
       let on = later (marker + 1) 0 rest (omega arith) a.later (within_start rest) (one_way_later rest m.id (ids_of ms) one) (names_start rest (ids_of ms) ∙ b.right) in
       walk_id t path id m ms marker n x rest a ∙ and_both b.left (rw z on)
 
-  complete_global : (m : OpenTag) (ms : List OpenTag) → Complete ms → (marker n : ℕ) (least most : Bound) (rest : List PathPart)
+  complete_global : (m : OpenTag) (ms : List OpenTag) → Complete ms → (marker n : ℕ) (least most : Option ℕ) (rest : List PathPart)
       → drop marker path ≡ Global least most ∷ rest → read_one_way (Global least most ∷ rest) (m.id ∷ ids_of ms) ≡ true
       → passes_after (λ after. path_names rest after) least most n (m.id ∷ ids_of ms) ≡ true → walk_from true t path id marker n (m ∷ ms) ≡ true
   unfolding names_from path_names passes_after in_bounds read_one_way at_most_once

@@ -17,17 +17,16 @@ use Rattle.basics.proofs.Bools.{both, and_both}
 use Rattle.basics.proofs.Every.{every_other}
 use Rattle.table.specs.Table.{Entry, path_of, path_ids}
 use Rattle.table.specs.Check.{only_ids}
-use Rattle.table.specs.declared.types.Bound.{Bound}
-use Rattle.table.specs.declared.types.Bound.TheVariants.{NotGiven, Given}
 use Rattle.table.specs.declared.types.PathPart.{PathPart}
 use Rattle.table.specs.declared.types.PathPart.TheVariants.{Id, Global}
 use Rattle.spec_util.specs.Walk.{over_max, under_min, is_id_at, walk_global, walk_at, walk_part, unknown_and_ended, walk_master, min_met, walk_end, go_on, walk_from, place_along, validate_tag_path}
 use Rattle.spec_util.specs.Rfc8794.{in_bounds, PathNames, passes_after, path_names, global_only_last, stays_open}
 use Rattle.spec_util.specs.declared.types.OpenTag.{OpenTag}
+use Rattle.std.specs.Prelude.{None, Option, Some}
 
 -- ---- the test is the relation
 
-module _ (test : List ℕ → Bool) (least most : Bound) where
+module _ (test : List ℕ → Bool) (least most : Option ℕ) where
   -- where the parents are cut in those that a Global stands for and the rest
   record Cut (n : ℕ) (parents : List ℕ) : Type 0 where
     between : List ℕ
@@ -105,7 +104,7 @@ ids_last (Id x ∷ path) o = ids_last path o
 ids_last (Global least most ∷ path) o = absurd (false≢true o)
 
 -- a Global at the end names any parents, within its bounds
-last_passes : (least most : Bound) (n : ℕ) (parents : List ℕ)
+last_passes : (least most : Option ℕ) (n : ℕ) (parents : List ℕ)
     → passes_after (λ rest. path_names [] rest) least most n parents ≡ in_bounds least most (n + length parents)
 unfolding passes_after path_names
 last_passes least most n [] = let z : n + 0 ≡ n = omega arith in rw z (and-true (in_bounds least most n))
@@ -129,12 +128,12 @@ at path marker p rest e =
     let c = sym (drop-cons path marker (Id 0) h) ∙ e in
     record { there = h; count = omega arith; part = head-eq_of_cons-eq c; later = rw add-one (tail-eq_of_cons-eq c) }
 
-pub over_more : (most : Bound) (n k : ℕ) → n ≤ k → over_max n most ≡ true → over_max k most ≡ true
+pub over_more : (most : Option ℕ) (n k : ℕ) → n ≤ k → over_max n most ≡ true → over_max k most ≡ true
 unfolding over_max
-over_more NotGiven n k h e = absurd (false≢true e)
-over_more (Given m) n k h e = lt-ltb m k (omega (arith, ltb-true m n e))
+over_more None n k h e = absurd (false≢true e)
+over_more (Some m) n k h e = lt-ltb m k (omega (arith, ltb-true m n e))
 
-pub over_out : (least most : Bound) (n : ℕ) → over_max n most ≡ true → in_bounds least most n ≡ false
+pub over_out : (least most : Option ℕ) (n : ℕ) → over_max n most ≡ true → in_bounds least most n ≡ false
 unfolding in_bounds
 over_out least most n e = rw e (and-false (not (under_min n least)))
 
@@ -152,7 +151,7 @@ module _ (t : List Entry) (path : List PathPart) (id : ℕ) where
   walk_past m ms marker counter s h = rw (not-true (unknown_and_ended false t m.known m.id id) s, le-leb (length path) marker h)
 
   -- a Global at the end counts the masters that are left
-  module _ (least most : Bound) (marker : ℕ) (a : At path marker (Global least most) []) where
+  module _ (least most : Option ℕ) (marker : ℕ) (a : At path marker (Global least most) []) where
     pub ends_in_global : (counter : ℕ) → over_max counter most ≡ false → walk_end path marker counter ≡ in_bounds least most (counter + 0)
     unfolding walk_end min_met in_bounds
     ends_in_global counter o =
@@ -188,10 +187,10 @@ module _ (t : List Entry) (path : List PathPart) (id : ℕ) where
   unfolding walk_end
   ends_at_end marker counter e = rw (eq-eqb marker (length path) e)
 
-  pub none_over : (most : Bound) → over_max 0 most ≡ false
+  pub none_over : (most : Option ℕ) → over_max 0 most ≡ false
   unfolding over_max
-  none_over NotGiven = refl
-  none_over (Given n) = le-ltb n 0 (omega arith)
+  none_over None = refl
+  none_over (Some n) = le-ltb n 0 (omega arith)
 
   walk_names_from : (ms : List OpenTag) (marker : ℕ) (rest : List PathPart) → marker ≤ length path → drop marker path ≡ rest
       → global_only_last rest ≡ true → every (stays_open t id) ms ≡ true

@@ -1,12 +1,11 @@
 -- RFC 8794 over a table: where an element belongs (section 11.1.6), and which element ends one of unknown size (section
 -- 6.2). What is decoded goes by Walk.antt and Ended.antt, as the Rust does; laws say where the two agree, and worked
 -- examples where they do not.
-use Rattle.std.specs.Prelude.{ℕ, ◌+◌, ◌-◌, Bool, true, false, cond, not, ◌&&◌, ◌||◌, ◌≡◌, eqb, length, drop}
+use Rattle.std.specs.Prelude.{ℕ, ◌+◌, ◌-◌, Bool, true, false, cond, not, ◌&&◌, ◌||◌, ◌≡◌, eqb, length, drop, Option}
 use mathlib.Core.List.{List, [], ◌∷◌, ◌++◌, Memᴰ}
 use Rattle.basics.specs.Lists.{any}
 use Rattle.table.specs.Table.{Entry, data_type_of, path_of, same_path, is_typed}
 use Rattle.table.specs.Check.{only_ids}
-use Rattle.table.specs.declared.types.Bound.{Bound}
 use Rattle.table.specs.declared.types.PathPart.{PathPart}
 use Rattle.table.specs.declared.types.PathPart.TheVariants.{Id, Global}
 use Rattle.spec_util.specs.Ended.{is_parent}
@@ -16,7 +15,7 @@ use Rattle.spec_util.specs.declared.types.OpenTag.{OpenTag}
 -- ---- section 11.1.6: a path names the parents from the root
 
 -- a Global may stand for so many parents: a missing min is 0, a missing max is no bound
-unfoldable pub in_bounds : Bound → Bound → ℕ → Bool
+unfoldable pub in_bounds : Option ℕ → Option ℕ → ℕ → Bool
 in_bounds least most n = not (under_min n least) && not (over_max n most)
 
 -- these are parents that the path names, from the root: an ID is that parent, and a Global stands for a number of
@@ -28,7 +27,7 @@ PathNames (Global least most ∷ path) parents =
     (between : List ℕ) × (rest : List ℕ) × (parents ≡ between ++ rest) × (in_bounds least most (length between) ≡ true) × PathNames path rest
 
 -- what follows passes a test, after n parents that a Global stands for already and any number more, within its bounds
-unfoldable pub passes_after : (List ℕ → Bool) → Bound → Bound → ℕ → List ℕ → Bool
+unfoldable pub passes_after : (List ℕ → Bool) → Option ℕ → Option ℕ → ℕ → List ℕ → Bool
 passes_after test least most n [] = in_bounds least most n && test []
 passes_after test least most n (x ∷ rest) = in_bounds least most n && test (x ∷ rest) || passes_after test least most (n + 1) rest
 

@@ -1,9 +1,7 @@
 -- The path walk of an ID along its path: document 01, "One call of the decoder", "Path walk".
-use Rattle.std.specs.Prelude.{ℕ, zero, suc, ◌+◌, ◌-◌, ◌^◌, ◌<◌, min, Bool, true, false, cond, not, ◌&&◌, ◌||◌, List, [], ◌∷◌, reverse, ◌≡◌, leb, ltb, eqb, length, get_or, take}
+use Rattle.std.specs.Prelude.{ℕ, zero, suc, ◌+◌, ◌-◌, ◌^◌, ◌<◌, min, Bool, true, false, cond, not, ◌&&◌, ◌||◌, List, [], ◌∷◌, reverse, ◌≡◌, leb, ltb, eqb, length, get_or, take, None, Option, Some}
 use Rattle.basics.specs.Lists.{array_places, every}
 use Rattle.table.specs.Table.{Entry, path_of}
-use Rattle.table.specs.declared.types.Bound.{Bound}
-use Rattle.table.specs.declared.types.Bound.TheVariants.{NotGiven, Given}
 use Rattle.table.specs.declared.types.PathPart.{PathPart}
 use Rattle.table.specs.declared.types.PathPart.TheVariants.{Id, Global}
 use Rattle.spec_util.specs.Ended.{is_id_of, is_ended_in}
@@ -26,14 +24,14 @@ most_open = array_places
 -- ---- bounds: one that is not given bounds nothing
 
 -- "over max"
-unfoldable pub over_max : ℕ → Bound → Bool
-over_max n NotGiven = false
-over_max n (Given most) = ltb most n
+unfoldable pub over_max : ℕ → Option ℕ → Bool
+over_max n None = false
+over_max n (Some most) = ltb most n
 
 -- "below min"
-unfoldable pub under_min : ℕ → Bound → Bool
-under_min n NotGiven = false
-under_min n (Given least) = ltb n least
+unfoldable pub under_min : ℕ → Option ℕ → Bool
+under_min n None = false
+under_min n (Some least) = ltb n least
 
 -- ---- one master
 
@@ -43,7 +41,7 @@ is_id_at path i id = ltb i (length path) && is_id_of id (get_or path i (Id 0))
 
 -- "Global: counter +1; over max: refuse; if the next part is this master's ID: below min refuse, else marker +2,
 -- counter 0"; n is the counter with this master counted
-unfoldable pub walk_global : List PathPart → ℕ → ℕ → ℕ → Bound → Bound → Walk
+unfoldable pub walk_global : List PathPart → ℕ → ℕ → ℕ → Option ℕ → Option ℕ → Walk
 walk_global path master marker n least most =
     cond (over_max n most) Refuse
     (cond (is_id_at path (marker + 1) master)
@@ -52,7 +50,7 @@ walk_global path master marker n least most =
 
 -- strictly, document 02, CR 11: "The Global counter counts only the parents between the ID parts", so a master that is
 -- the next part is not counted, for max neither; n is the counter without this master
-unfoldable pub walk_global_strictly : List PathPart → ℕ → ℕ → ℕ → Bound → Bound → Walk
+unfoldable pub walk_global_strictly : List PathPart → ℕ → ℕ → ℕ → Option ℕ → Option ℕ → Walk
 walk_global_strictly path master marker n least most =
     cond (is_id_at path (marker + 1) master)
     (cond (under_min n least) Refuse (On (marker + 2) 0))

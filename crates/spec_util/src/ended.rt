@@ -1,4 +1,4 @@
-// `is_parent`, `is_sibling` and `is_ended_by` of spec_util.rs.
+//! `is_parent`, `is_sibling` and `is_ended_by` of spec_util.rs.
 
 ghost use Rattle.std.specs.Prelude.{◌≡◌};
 ghost use Rattle.table.specs.Table.{table_of};
@@ -9,14 +9,16 @@ use table::check::only_ids;
 use table::lookup::{get_path_by_id, is_typed, look_up};
 use table::parts::{path_length, same_path};
 
-// Whether `test_id` is a parent of `current_id`.
+/// Whether `test_id` is a parent of `current_id`.
+#[tactic(auto, using(table::proofs::Entries::path_of_lem), unfolding(crate::specs::Ended::is_parent))]
 pub fn is_parent(entries: &[u64], parts: &[u64], current_id: u64, test_id: u64) -> bool
     ensures { result ≡ is_parent (table_of entries.now parts.now) current_id test_id }
 {
     has_id(parts, test_id, get_path_by_id(entries, parts, current_id))
 }
 
-// Whether the two have the same direct parent. Another instance of the current element counts as a sibling.
+/// Whether the two have the same direct parent. Another instance of the current element counts as a sibling.
+#[tactic(auto, using(table::proofs::Entries::path_of_lem), unfolding(crate::specs::Ended::is_sibling))]
 pub fn is_sibling(entries: &[u64], parts: &[u64], current_id: u64, test_id: u64) -> bool
     ensures { result ≡ is_sibling (table_of entries.now parts.now) current_id test_id }
 {
@@ -27,7 +29,7 @@ pub fn is_sibling(entries: &[u64], parts: &[u64], current_id: u64, test_id: u64)
     )
 }
 
-// Whether `test_id` ends the master `current_id` of Unknown size. One look-up for each of the two.
+/// Whether `test_id` ends the master `current_id` of Unknown size. One look-up for each of the two.
 pub fn is_ended_by(entries: &[u64], parts: &[u64], current_id: u64, test_id: u64) -> bool
     ensures { result ≡ is_ended_by (table_of entries.now parts.now) current_id test_id }
 {
@@ -36,34 +38,22 @@ pub fn is_ended_by(entries: &[u64], parts: &[u64], current_id: u64, test_id: u64
         return true;
     }
     let test = look_up(entries, parts, test_id);
-    let kind = test.kind;
-    let path = test.path;
-    if same_path(parts, current, path) {
-        return true;
-    }
-    if 0 < path_length(parts, path) {
-        return false;
-    }
-    is_typed(kind)
+    let depth = path_length(parts, test.path);
+    same_path(parts, current, test.path) || depth == 0 && is_typed(test.kind)
 }
 
-// The same strictly: `test_id` has a type, and no Global in its path.
+/// The same strictly: `test_id` has a type, and no Global in its path.
 pub fn is_ended_strictly(entries: &[u64], parts: &[u64], current_id: u64, test_id: u64) -> bool
     ensures { result ≡ is_ended_strictly (table_of entries.now parts.now) current_id test_id }
 {
     let test = look_up(entries, parts, test_id);
-    let kind = test.kind;
-    let path = test.path;
-    if !is_typed(kind) {
-        return false;
-    }
-    if !only_ids(parts, path) {
-        return false;
-    }
-    is_ended_by(entries, parts, current_id, test_id)
+    is_typed(test.kind)
+        && only_ids(parts, test.path)
+        && is_ended_by(entries, parts, current_id, test_id)
 }
 
-// Strictly or as ported.
+/// Strictly or as ported: two rules, which are named apart, and the setting picks one here.
+#[tactic(auto, unfolding(crate::specs::Ended::is_ended_in))]
 pub fn is_ended_in(
     strict: bool,
     entries: &[u64],

@@ -1,5 +1,5 @@
-// Who ends whom, and whether an element may stand where it does: spec_util.rs over a lent table.
-// Every routine answers on any words; what each answer is stands in specs/.
+//! Who ends whom, and whether an element may stand where it does: spec_util.rs over a lent table.
+//! Every routine answers on any words; what each answer is stands in specs/.
 #![tactic(auto)]
 
 pub mod ended;

@@ -1,4 +1,4 @@
-// `validate_tag_path` of spec_util.rs over lent words, as ported and strictly.
+//! `validate_tag_path` of spec_util.rs over lent words, as ported and strictly.
 
 ghost use Rattle.std.specs.Prelude.{true, not, List, reverse, ◌≡◌, ◌-◌, ◌≤◌, length};
 ghost use Rattle.basics.specs.Lists.{every};
@@ -10,7 +10,7 @@ use crate::walk::{least_of, unknown_and_ended, walk_along};
 use table::lookup::get_path_by_id;
 use table::types::Path;
 
-// How many of the first `count` open masters stay open before the ID: those at the top close that it ends.
+/// How many of the first `count` open masters stay open before the ID: those at the top close that it ends.
 pub fn left_open(
     strict: bool,
     entries: &[u64],
@@ -23,14 +23,12 @@ pub fn left_open(
     requires { (count ≤ length ids.now) × (count ≤ length knowns.now) }
     ensures { (l : List OpenTag) → Shown ids.now knowns.now count l → result ≡ count - ended_tops strict (table_of entries.now parts.now) id (reverse l) }
 {
+    // Counted down: `rposition` answers the place below which they stay only after a `map_or`, which is no plainer.
     let mut n = count;
-    while 0 < n {
-        if !unknown_and_ended(strict, entries, parts, knowns[n - 1], ids[n - 1], id) {
-            return n;
-        }
+    while 0 < n && unknown_and_ended(strict, entries, parts, knowns[n - 1], ids[n - 1], id) {
         n -= 1;
     }
-    0
+    n
 }
 
 // Whether, strictly, the ID ends none of the first `count` open masters.
@@ -45,18 +43,11 @@ fn ends_none(
     requires { (count ≤ length ids.now) × (count ≤ length knowns.now) }
     ensures { result ≡ every (λ m. not (unknown_and_ended true (table_of entries.now parts.now) m.known m.id id)) (masters_shown ids.now knowns.now count) }
 {
-    let mut i: usize = 0;
-    while i < count {
-        if unknown_and_ended(true, entries, parts, knowns[i], ids[i], id) {
-            return false;
-        }
-        i += 1;
-    }
-    true
+    (0..count).all(|i| !unknown_and_ended(true, entries, parts, knowns[i], ids[i], id))
 }
 
-// Whether an ID with this path may stand in the first `n` open masters, outermost first: their IDs, and whether their
-// sizes are known. What lies past the lent words is not there.
+/// Whether an ID with this path may stand in the first `n` open masters, outermost first: their IDs, and whether their
+/// sizes are known. What lies past the lent words is not there.
 pub fn place_along(
     strict: bool,
     entries: &[u64],
@@ -74,13 +65,12 @@ pub fn place_along(
     }
     let count = least_of(n, ids.len(), knowns.len());
     let kept = left_open(true, entries, parts, id, ids, knowns, count);
-    if !ends_none(entries, parts, id, ids, knowns, kept) {
-        return false;
-    }
-    walk_along(true, entries, parts, path, id, ids, knowns, kept)
+    ends_none(entries, parts, id, ids, knowns, kept)
+        && walk_along(true, entries, parts, path, id, ids, knowns, kept)
 }
 
-// Whether `tag_id` may stand in the first `count` open masters, as `place_along` takes them: its path is looked up here.
+/// Whether `tag_id` may stand in the first `count` open masters, as `place_along` takes them: its path is looked up
+/// here.
 pub fn validate_tag_path(
     strict: bool,
     entries: &[u64],

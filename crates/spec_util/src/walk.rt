@@ -1,4 +1,4 @@
-// The path walk of spec_util.rs over lent words, and its steps.
+//! The path walk of spec_util.rs over lent words, and its steps.
 
 ghost use Rattle.std.specs.Prelude.{false, not, ◌&&◌, ◌≡◌, ◌-◌, ◌^◌, min, ◌<◌, length};
 ghost use Rattle.table.specs.Table.{table_of, parts_of, parts_in};
@@ -9,36 +9,30 @@ use crate::ended::is_ended_in;
 use crate::ids::is_id_of;
 use crate::types::{MOST_OPEN, Walk};
 use table::parts::{path_length, path_part};
-use table::types::{Bound, Path, PathPart};
+use table::types::{Path, PathPart};
 
 // Whether a count is over a bound.
-fn over_max(n: u64, max: Bound) -> bool
+#[tactic(auto, unfolding(crate::specs::Walk::over_max))]
+fn over_max(n: u64, max: Option<u64>) -> bool
     ensures { result ≡ over_max n max }
 {
-    match max {
-        Bound::NotGiven => false,
-        Bound::Given(most) => most < n,
-    }
+    max.is_some_and(|most| most < n)
 }
 
 // Whether a count is below a bound.
-fn under_min(n: u64, min: Bound) -> bool
+#[tactic(auto, unfolding(crate::specs::Walk::under_min))]
+fn under_min(n: u64, min: Option<u64>) -> bool
     ensures { result ≡ under_min n min }
 {
-    match min {
-        Bound::NotGiven => false,
-        Bound::Given(least) => n < least,
-    }
+    min.is_some_and(|least| n < least)
 }
 
 // Whether part i of a path is there, and is this ID.
+#[tactic(auto, unfolding(crate::specs::Walk::is_id_at))]
 fn is_id_at(parts: &[u64], path: Path, i: usize, id: u64) -> bool
     ensures { result ≡ is_id_at (parts_in (parts_of parts.now) path) i id }
 {
-    if path_length(parts, path) <= i {
-        return false;
-    }
-    is_id_of(id, path_part(parts, path, i))
+    i < path_length(parts, path) && is_id_of(id, path_part(parts, path, i))
 }
 
 // A master at a Global; n counts it.
@@ -48,8 +42,8 @@ fn walk_global(
     master_id: u64,
     marker: usize,
     n: u64,
-    least: Bound,
-    most: Bound,
+    least: Option<u64>,
+    most: Option<u64>,
 ) -> Walk
     requires { marker < length (parts_in (parts_of parts.now) path) }
     ensures { result ≡ walk_global (parts_in (parts_of parts.now) path) master_id marker n least most }
@@ -76,8 +70,8 @@ fn walk_global_strictly(
     master_id: u64,
     marker: usize,
     n: u64,
-    least: Bound,
-    most: Bound,
+    least: Option<u64>,
+    most: Option<u64>,
 ) -> Walk
     requires { (marker < length (parts_in (parts_of parts.now) path)) × (n < 2 ^ 64 - 1) }
     ensures { result ≡ walk_global_strictly (parts_in (parts_of parts.now) path) master_id marker n least most }
@@ -101,6 +95,7 @@ fn walk_global_strictly(
 }
 
 // A master at a Global, strictly or as ported; the counter does not count it.
+#[tactic(auto, unfolding(crate::specs::Walk::walk_at))]
 fn walk_global_in(
     strict: bool,
     parts: &[u64],
@@ -108,8 +103,8 @@ fn walk_global_in(
     master_id: u64,
     marker: usize,
     counter: u64,
-    least: Bound,
-    most: Bound,
+    least: Option<u64>,
+    most: Option<u64>,
 ) -> Walk
     requires { (marker < length (parts_in (parts_of parts.now) path)) × (counter < 2 ^ 64 - 1) }
     ensures { result ≡ walk_at strict (parts_in (parts_of parts.now) path) (Global least most) master_id marker counter }
@@ -136,15 +131,11 @@ fn walk_part(
         return Walk::Refuse;
     }
     match path_part(parts, path, marker) {
-        PathPart::Id(id) => {
-            if id == master_id {
-                return Walk::On {
-                    marker: marker + 1,
-                    counter,
-                };
-            }
-            Walk::Refuse
-        }
+        PathPart::Id(id) if id == master_id => Walk::On {
+            marker: marker + 1,
+            counter,
+        },
+        PathPart::Id(_) => Walk::Refuse,
         PathPart::Global { min, max } => walk_global_in(
             strict, parts, path, master_id, marker, counter, min, max,
         ),
@@ -155,13 +146,11 @@ fn walk_part(
 fn counted(counter: u64) -> u64
     ensures { (result ≡ counted_of counter) × (result < 2 ^ 64 - 1) }
 {
-    if counter < 0xffff_ffff_ffff_ffff {
-        return counter;
-    }
-    0xffff_ffff_ffff_fffe
+    counter.min(u64::MAX - 1)
 }
 
-// Whether a master has an Unknown size and the new ID ends it.
+/// Whether a master has an Unknown size and the new ID ends it.
+#[tactic(auto, unfolding(crate::specs::Walk::unknown_and_ended))]
 pub fn unknown_and_ended(
     strict: bool,
     entries: &[u64],
@@ -172,10 +161,7 @@ pub fn unknown_and_ended(
 ) -> bool
     ensures { result ≡ unknown_and_ended strict (table_of entries.now parts.now) known master_id tag_id }
 {
-    if known {
-        return false;
-    }
-    is_ended_in(strict, entries, parts, master_id, tag_id)
+    !known && is_ended_in(strict, entries, parts, master_id, tag_id)
 }
 
 // Whether the walk accepts at a master at once: never, strictly.
@@ -189,14 +175,12 @@ fn accepts_at_once(
 ) -> bool
     ensures { result ≡ (not strict && unknown_and_ended false (table_of entries.now parts.now) known master_id tag_id) }
 {
-    if strict {
-        return false;
-    }
-    unknown_and_ended(false, entries, parts, known, master_id, tag_id)
+    !strict && unknown_and_ended(false, entries, parts, known, master_id, tag_id)
 }
 
-// One open master in the walk of `tag_id` along its path. A counter of 2^64 - 1, which no walk reaches, is taken as one
-// less.
+/// One open master in the walk of `tag_id` along its path. A counter of 2^64 - 1, which no walk reaches, is taken as
+/// one less.
+#[tactic(auto, unfolding(crate::specs::Walk::walk_master))]
 pub fn walk_master(
     strict: bool,
     entries: &[u64],
@@ -217,16 +201,18 @@ pub fn walk_master(
 }
 
 // Whether the walk may end at this last part: a Global whose min is met.
+#[tactic(auto, unfolding(crate::specs::Walk::min_met))]
 fn min_met(part: PathPart, counter: u64) -> bool
     ensures { result ≡ min_met part counter }
 {
     match part {
         PathPart::Id(_) => false,
-        PathPart::Global { min, max: _ } => !under_min(counter, min),
+        PathPart::Global { min, .. } => !under_min(counter, min),
     }
 }
 
-// Whether the walk may end here.
+/// Whether the walk may end here.
+#[tactic(auto, unfolding(crate::specs::Walk::walk_end))]
 pub fn walk_end(parts: &[u64], path: Path, marker: usize, counter: u64) -> bool
     ensures { result ≡ walk_end (parts_in (parts_of parts.now) path) marker counter }
 {
@@ -234,34 +220,25 @@ pub fn walk_end(parts: &[u64], path: Path, marker: usize, counter: u64) -> bool
     if count <= marker {
         return marker == count;
     }
-    if marker + 1 < count {
-        return false;
-    }
-    min_met(path_part(parts, path, marker), counter)
+    marker + 1 == count && min_met(path_part(parts, path, marker), counter)
 }
 
-// A record has places for 32 masters.
+/// A record has places for 32 masters.
 pub fn at_most_32(count: usize) -> usize
     ensures { result ≡ min count most_open }
 {
-    if count < MOST_OPEN {
-        return count;
-    }
-    MOST_OPEN
+    count.min(MOST_OPEN)
 }
 
-// The least of a count and two lengths.
+/// The least of a count and two lengths.
 pub fn least_of(count: usize, ids: usize, knowns: usize) -> usize
     ensures { result ≡ min count (min ids knowns) }
 {
-    if ids < knowns {
-        return if count < ids { count } else { ids };
-    }
-    if count < knowns { count } else { knowns }
+    count.min(ids.min(knowns))
 }
 
-// The walk of `id` along a path that is at hand, over the first `n` open masters, outermost first: their IDs, and
-// whether their sizes are known. What lies past the lent words is not there.
+/// The walk of `id` along a path that is at hand, over the first `n` open masters, outermost first: their IDs, and
+/// whether their sizes are known. What lies past the lent words is not there.
 pub fn walk_along(
     strict: bool,
     entries: &[u64],
@@ -277,8 +254,7 @@ pub fn walk_along(
     let count = least_of(n, ids.len(), knowns.len());
     let mut marker: usize = 0;
     let mut counter: u64 = 0;
-    let mut i: usize = 0;
-    while i < count {
+    for i in 0..count {
         match walk_master(
             strict, entries, parts, path, id, ids[i], knowns[i], marker, counter,
         ) {
@@ -296,7 +272,6 @@ pub fn walk_along(
                 counter = so_far;
             }
         }
-        i += 1;
     }
     walk_end(parts, path, marker, counter)
 }

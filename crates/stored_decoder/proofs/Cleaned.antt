@@ -24,11 +24,11 @@ use Rattle.decoder_rules.proofs.MoveEffects.{Arrays}
 use Rattle.stored_decoder.specs.Words.{decoder_words, record_of, present, clean_tag, clean_settings, cleaned}
 use Rattle.stored_decoder.specs.Check.{check_words}
 use Rattle.stored_decoder.specs.Block.{Words64, words_of, block}
-use Rattle.stored_decoder.specs.declared.types.Acceptance.TheVariants.{Accepted}
 use Rattle.stored_decoder.proofs.Written.{words_length}
 use Rattle.stored_decoder.proofs.WordsBack.{record-back}
 use Rattle.stored_decoder.proofs.Checks.{record-arrays}
 use Rattle.stored_decoder.proofs.Restoring.{words_of_bytes, accepts, accepted_own}
+use Rattle.std.specs.Prelude.{Ok}
 
 present_zero : (b : Bool) (n : ℕ) → (b ≡ false → n ≡ 0) → present b n ≡ n
 present_zero true n h = refl
@@ -114,7 +114,7 @@ module _ (d : TagDecoder) (a : Arrays d) (few_open : d.open_count ≤ most_open)
 
 -- ---- what words that are accepted hold
 
-module _ (w : List ℕ) (e : check_words w ≡ Accepted) where
+module _ (w : List ℕ) (e : check_words w ≡ (Ok tt)) where
   -- a record that storing leaves as it is
   pub accepted_cleaned : cleaned (record_of w) ≡ record_of w
   accepted_cleaned = sym (record-back (record_of w) (record-arrays w)) ∙ ap record_of (accepted_own w e)

@@ -14,9 +14,9 @@ use Rattle.stored_decoder.specs.Words.{word_count, master_words, end_words, fron
 use Rattle.stored_decoder.specs.Refusals.{error_number}
 use Rattle.stored_decoder.specs.Check.{good_value, good_front, good_master, good_end, good_places, good_words, check_words}
 use Rattle.stored_decoder.specs.Block.{bytes_of, words_of, block, store_as, with_counts, from_layout1, restore_layout1, restore_either, restore_from}
-use Rattle.stored_decoder.specs.declared.types.Acceptance.{Acceptance}
-use Rattle.stored_decoder.specs.declared.types.Acceptance.TheVariants.{Accepted, Refused}
 use Rattle.stored_decoder.specs.declared.types.Restored.{Restored}
+use Rattle.std.specs.Prelude.{Err, Ok, Result, ⊤}
+use Rattle.stored_decoder.specs.declared.types.StoreError.{StoreError}
 
 -- what the examples compute with
 unfoldable stored_compute : Unit {0}
@@ -41,7 +41,7 @@ unfolding stored_compute
 fresh-bytes = refl
 
 -- it is restored
-pub fresh_restored : restore_from fresh (block fresh) ≡ record { answer = Accepted; state = fresh }
+pub fresh_restored : restore_from fresh (block fresh) ≡ record { answer = Ok tt; state = fresh }
 unfolding stored_compute
 fresh_restored = refl
 
@@ -54,7 +54,7 @@ layout1_words = padded (1 ∷ 0 ∷ 0 ∷ 0 ∷ 1 ∷ 4_000_000_000 ∷ 12 ∷ 1
 -- it is read as ported, counts 0
 pub layout1_restored : restore_from fresh (bytes_of layout1_words)
     ≡ record {
-      answer = Accepted;
+      answer = Ok tt;
       state = record {
         settings = first_settings;
         position = 12;
@@ -75,9 +75,9 @@ layout1_restored = refl
 abbrev answer_number : Restored → ℕ
 answer_number r = number_of r.answer
   where
-    number_of : Acceptance → ℕ
-    number_of Accepted = 0
-    number_of (Refused e) = error_number e
+    number_of : Result ⊤ StoreError → ℕ
+    number_of (Ok _) = 0
+    number_of (Err e) = error_number e
 
 -- a fresh record's words with another word at a place
 abbrev fresh_but : ℕ → ℕ → List ℕ

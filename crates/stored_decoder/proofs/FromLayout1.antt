@@ -24,11 +24,11 @@ use Rattle.stored_decoder.specs.Words.{word_count, master_words, end_words, fron
 use Rattle.stored_decoder.specs.Check.{all_zero}
 use Rattle.stored_decoder.specs.Block.{Words64, block_length, bytes_of, with_counts, from_layout1, restore_words, restore_layout1, restore_either, restore_from}
 use Rattle.stored_decoder.specs.Layout1.{master_words1, end_words1, layout1_words, uncounted, uncounted_end, as_ported}
-use Rattle.stored_decoder.specs.declared.types.Acceptance.TheVariants.{Accepted}
 use Rattle.stored_decoder.proofs.Overwriting.{flat_length}
 use Rattle.stored_decoder.proofs.InPlaces.{places_of, zeros_zero}
 use Rattle.stored_decoder.proofs.UsedPlaces.{used_length}
 use Rattle.stored_decoder.proofs.Restoring.{words_of_bytes, bytes-length, restore_words_stored}
+use Rattle.std.specs.Prelude.{Ok}
 
 -- ---- a place
 
@@ -167,7 +167,7 @@ module _ (d : TagDecoder) (a : Arrays d) where
 
   -- a record stored in layout 1 is restored as ported, counts 0, whatever the record was before
   pub restore_layout1_lem : Words64 (layout1_words d) → good_state d ≡ true
-      → (e : TagDecoder) → restore_from e (bytes_of (layout1_words d)) ≡ record { answer = Accepted; state = cleaned (as_ported d) }
+      → (e : TagDecoder) → restore_from e (bytes_of (layout1_words d)) ≡ record { answer = Ok tt; state = cleaned (as_ported d) }
   unfolding restore_from restore_either restore_layout1
   restore_layout1_lem f h e =
       let w = layout1_words d in

@@ -1,7 +1,7 @@
 -- Words in places of the same size: what stands in each, and that they are the words again. Assumes nothing.
 use Prim.Native.Nat.{ℕ, zero, suc, ◌+◌, ◌*◌, ◌≤◌, ◌<◌}
 use mathlib.Core.Path.{◌≡◌, refl, sym, ap, ap₂, ◌∙◌}
-use mathlib.Core.Bool.{true}
+use mathlib.Core.Bool.{true, ◌&&◌}
 use mathlib.Core.List.{List, [], ◌∷◌, ◌++◌, map, flat_map, append_assoc}
 use native.Mathlib.Nat.{mul-suc, mul-zero}
 use native.Mathlib.Omega.{arith}
@@ -9,6 +9,7 @@ use borrow.Author.Tests.{eqb-true}
 use lib.Dec.{eqb}
 use lib.ListN.{length, get_or, take, drop, replicate, length-take, length-drop}
 use lib.Seq.{take_at, drop_at, take-add, drop-drop, get_or-take, get_or-drop}
+use Rattle.std.specs.List.{list_all}
 use Rattle.basics.specs.Lists.{every}
 use Rattle.basics.proofs.Bools.{both}
 use Rattle.stored_decoder.specs.Words.{places}
@@ -62,6 +63,12 @@ pub all_zero_lem : (w : List ℕ) → all_zero w ≡ true → w ≡ replicate (l
 unfolding every
 all_zero_lem [] e = refl
 all_zero_lem (x ∷ w) e = let b = both (eqb x 0) (all_zero w) e in ap₂ (λ (y : ℕ) (l : List ℕ). y ∷ l) (eqb-true x 0 b.left) (all_zero_lem w b.right)
+
+-- the library's word for it
+pub all_zero_is : (w : List ℕ) → all_zero w ≡ list_all (λ x. eqb x 0) w
+unfolding every
+all_zero_is [] = refl
+all_zero_is (x ∷ w) = ap (λ b. eqb x 0 && b) (all_zero_is w)
 
 pub zeros_zero : (n : ℕ) → all_zero (replicate n 0) ≡ true
 unfolding every

@@ -6,6 +6,7 @@ use mathlib.Core.List.{List, [], ◌∷◌, ◌++◌, map, flat_map, append_asso
 use native.Mathlib.Nat.{mul-zero, mul-suc, mul-le-mul_left, add-zero}
 use native.Mathlib.Numerals.{add-one}
 use native.Mathlib.Omega.{arith}
+use borrow.Rule.Slice.PartMut.{put_mid}
 use lib.ListN.{length, get_or, set, take, drop, replicate, length-append, length-take, length-drop, length-map, drop_of_length-le, take-append-drop, replicate-append-replicate, length-replicate}
 use lib.Seq.{sets, sets-eq, set_split, take_at, take-suc, take_all, drop-drop, drop-append-add, length-take-le}
 use Rattle.stored_decoder.specs.Writing.{over}
@@ -119,6 +120,11 @@ unfolding over
 over_part o l m h =
     let n : length (drop o m) ≡ length m - o = length-drop o m in
     rw (take_all (length m - o) (drop o m) (omega arith), drop_of_length-le (drop o m) {i = length m - o} (omega arith), append-nil (l ++ drop (length l) (drop o m)), drop-drop (length l) o m)
+
+-- a list put in place of a part of its length
+pub over_put : {A : Type 0} (o n : ℕ) (l m : List A) → length l ≡ n → put_mid o n m l ≡ over o l m
+unfolding over
+over_put o n l m e = ap (λ (x : _). take o m ++ (l ++ x)) (drop-drop n o m ∙ ap (λ (k : ℕ). drop (o + k) m) (sym e))
 
 -- so many places of so many lie within
 pub reach : (o n i k most : ℕ) → i < k → o + n * k ≤ most → o + n * i + n ≤ most

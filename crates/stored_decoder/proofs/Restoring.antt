@@ -24,8 +24,6 @@ use Rattle.decoder_rules.proofs.MoveEffects.{Arrays}
 use Rattle.stored_decoder.specs.Words.{word_count, decoder_words, front_words, places, record_of, present, clean_tag, cleaned}
 use Rattle.stored_decoder.specs.Check.{good_words, check_words}
 use Rattle.stored_decoder.specs.Block.{block_length, Words64, bytes_of, words_of, block, store_out, store_as, stays, record_if_taken, restore_words, restore_either, restore_from}
-use Rattle.stored_decoder.specs.declared.types.Acceptance.{Acceptance}
-use Rattle.stored_decoder.specs.declared.types.Acceptance.TheVariants.{Accepted, Refused}
 use Rattle.stored_decoder.specs.declared.types.Restored.{Restored}
 use Rattle.stored_decoder.specs.declared.types.StoreError.TheVariants.{BlockLength, UnknownLayout, UnusedSet, BadState}
 use Rattle.stored_decoder.proofs.Overwriting.{flat_length}
@@ -34,6 +32,8 @@ use Rattle.stored_decoder.proofs.Written.{words_length}
 use Rattle.stored_decoder.proofs.OwnWords.{GoodWords, good_words_lem, words_own}
 use Rattle.stored_decoder.proofs.WordsBack.{words_good, record-back}
 use Rattle.stored_decoder.proofs.Checks.{checked_tests}
+use Rattle.std.specs.Prelude.{Err, Ok, Result, ⊤}
+use Rattle.stored_decoder.specs.declared.types.StoreError.{StoreError}
 
 -- ---- a cleaned record is as good as the record
 
@@ -82,14 +82,14 @@ module _ (d : TagDecoder) (a : Arrays d) where
   two_first = refl
 
   -- the words of a record that 11 does not refuse are accepted
-  pub words_accepted : good_state d ≡ true → check_words (decoder_words d) ≡ Accepted
+  pub words_accepted : good_state d ≡ true → check_words (decoder_words d) ≡ Ok tt
   words_accepted h =
       sym (checked_tests (decoder_words d) (words_length d a) two_first)
       ∙ cond_yes _ _ _ (words_good d a)
       ∙ cond_yes _ _ _ (ap good_state (record-back d a) ∙ cleaned_good d h)
 
   -- and hold it, cleaned, whatever the record was before
-  pub restore_words_stored : (e : TagDecoder) → good_state d ≡ true → restore_words e (decoder_words d) ≡ record { answer = Accepted; state = cleaned d }
+  pub restore_words_stored : (e : TagDecoder) → good_state d ≡ true → restore_words e (decoder_words d) ≡ record { answer = Ok tt; state = cleaned d }
   restore_words_stored e h = ap (record_if_taken e (decoder_words d)) (words_accepted h) ∙ rw (record-back d a)
 
 -- what an accepted list of words is
@@ -99,12 +99,12 @@ pub record Accepts (w : List ℕ) : Type 0 where
   pub good : GoodWords w
   pub state : good_state (record_of w) ≡ true
 
-pub accepts : (w : List ℕ) → check_words w ≡ Accepted → Accepts w
+pub accepts : (w : List ℕ) → check_words w ≡ Ok tt → Accepts w
 unfolding check_words
 accepts w e = go (eqb (length w) word_count) refl (eqb (get_or w 0 0) 2) refl (good_words w) refl (good_state (record_of w)) refl e
   where
     go : (b : Bool) → eqb (length w) word_count ≡ b → (l : Bool) → eqb (get_or w 0 0) 2 ≡ l → (g : Bool) → good_words w ≡ g → (s : Bool) → good_state (record_of w) ≡ s
-        → cond b (cond l (cond g (cond s Accepted (Refused BadState)) (Refused UnusedSet)) (Refused UnknownLayout)) (Refused BlockLength) ≡ Accepted → Accepts w
+        → ◌≡◌ {A = Result ⊤ StoreError} (cond b (cond l (cond g (cond s (Ok tt) (Err BadState)) (Err UnusedSet)) (Err UnknownLayout)) (Err BlockLength)) (Ok tt) → Accepts w
     go true p true q true r true t e = record { long = eqb-true _ _ p; layout = eqb-true _ _ q; good = good_words_lem w r; state = t }
     go true p true q true r false t e = let z : ◌≡◌ {A = ℕ} 0 1 = cc in absurd_eq z
     go true p true q false r s t e = let z : ◌≡◌ {A = ℕ} 0 1 = cc in absurd_eq z
@@ -112,7 +112,7 @@ accepts w e = go (eqb (length w) word_count) refl (eqb (get_or w 0 0) 2) refl (g
     go false p l q g r s t e = let z : ◌≡◌ {A = ℕ} 0 1 = cc in absurd_eq z
 
 -- words that are accepted are the words of their record
-pub accepted_own : (w : List ℕ) → check_words w ≡ Accepted → decoder_words (record_of w) ≡ w
+pub accepted_own : (w : List ℕ) → check_words w ≡ Ok tt → decoder_words (record_of w) ≡ w
 accepted_own w e = let a = accepts w e in words_own w a.long a.good a.layout
 
 -- ---- bytes
@@ -153,7 +153,7 @@ bytes_of_words b o h = bytes_back word_count b o h
 
 -- restoring what was stored gives the record, cleaned, whatever the record was before
 pub restore_store : (d : TagDecoder) → Arrays d → Words64 (decoder_words d) → good_state d ≡ true
-    → (e : TagDecoder) → restore_from e (block d) ≡ record { answer = Accepted; state = cleaned d }
+    → (e : TagDecoder) → restore_from e (block d) ≡ record { answer = Ok tt; state = cleaned d }
 unfolding restore_from restore_either
 restore_store d a f h e =
     let w = decoder_words d in
@@ -164,7 +164,7 @@ restore_store d a f h e =
     ∙ restore_words_stored d a e h
 
 -- a block of layout 2 that is restored is the block of its record, which 11 does not refuse
-taken_own : (d : TagDecoder) (b : List ℕ) → Octets b → get_or (words_of b) 0 0 ≡ 2 → (restore_from d b).answer ≡ Accepted
+taken_own : (d : TagDecoder) (b : List ℕ) → Octets b → get_or (words_of b) 0 0 ≡ 2 → (restore_from d b).answer ≡ Ok tt
     → (block (restore_from d b).state ≡ b) × (good_state (restore_from d b).state ≡ true)
 unfolding restore_from restore_either
 taken_own d b o two e = go (eqb (length b) block_length) refl e
@@ -178,21 +178,21 @@ taken_own d b o two e = go (eqb (length b) block_length) refl e
     layout2 : restore_either d w ≡ restore_words d w
     layout2 = cond_no _ _ _ (ap (λ (x : ℕ). eqb x 1) two)
 
-    taken : length b ≡ block_length → (a : Acceptance) → check_words w ≡ a → (record_if_taken d w a).answer ≡ Accepted → Own (record_if_taken d w a)
-    taken n Accepted c q = (ap bytes_of (accepted_own w c) ∙ bytes_of_words b o n, (accepts w c).state)
-    taken n (Refused x) c q = let z : ◌≡◌ {A = ℕ} 0 1 = cc in absurd_eq z
+    taken : length b ≡ block_length → (a : Result ⊤ StoreError) → check_words w ≡ a → (record_if_taken d w a).answer ≡ Ok tt → Own (record_if_taken d w a)
+    taken n (Ok _) c q = (ap bytes_of (accepted_own w c) ∙ bytes_of_words b o n, (accepts w c).state)
+    taken n (Err x) c q = let z : ◌≡◌ {A = ℕ} 0 1 = cc in absurd_eq z
 
-    go : (t : Bool) → eqb (length b) block_length ≡ t → (cond t (restore_either d w) (stays d (Refused BlockLength))).answer ≡ Accepted → Own (cond t (restore_either d w) (stays d (Refused BlockLength)))
+    go : (t : Bool) → eqb (length b) block_length ≡ t → (cond t (restore_either d w) (stays d (Err BlockLength))).answer ≡ Ok tt → Own (cond t (restore_either d w) (stays d (Err BlockLength)))
     go true p q = rw layout2 (taken (eqb-true _ _ p) (check_words w) refl (rw layout2 at q))
     go false p q = let z : ◌≡◌ {A = ℕ} 0 1 = cc in absurd_eq z
 
-pub store_restore : (d : TagDecoder) (b : List ℕ) → Octets b → get_or (words_of b) 0 0 ≡ 2 → (restore_from d b).answer ≡ Accepted → block (restore_from d b).state ≡ b
+pub store_restore : (d : TagDecoder) (b : List ℕ) → Octets b → get_or (words_of b) 0 0 ≡ 2 → (restore_from d b).answer ≡ Ok tt → block (restore_from d b).state ≡ b
 store_restore d b o two e = (taken_own d b o two e).0
 
 -- so storing it again, into any block of that length, writes that block
-pub stored_again : (d : TagDecoder) (b lent : List ℕ) → Octets b → get_or (words_of b) 0 0 ≡ 2 → (restore_from d b).answer ≡ Accepted → length lent ≡ block_length
-    → store_out (restore_from d b).state lent ≡ (Accepted, b)
+pub stored_again : (d : TagDecoder) (b lent : List ℕ) → Octets b → get_or (words_of b) 0 0 ≡ 2 → (restore_from d b).answer ≡ Ok tt → length lent ≡ block_length
+    → store_out (restore_from d b).state lent ≡ (Ok tt, b)
 unfolding store_as
 stored_again d b lent o two e n =
     let k = taken_own d b o two e in
-    cond_yes _ _ _ (eq-eqb (length lent) block_length n) ∙ cond_yes _ _ _ k.1 ∙ ap (λ (x : List ℕ). (Accepted, x)) k.0
+    cond_yes _ _ _ (eq-eqb (length lent) block_length n) ∙ cond_yes _ _ _ k.1 ∙ ap (λ (x : List ℕ). (Ok tt, x)) k.0

@@ -1,7 +1,8 @@
 -- Arrays of 32 places of which the first are in use: what stands in each place, as the code reads it. Assumes nothing.
 use Prim.Native.Nat.{ℕ, ◌≤◌, ◌<◌}
 use mathlib.Core.Path.{◌≡◌, refl}
-use mathlib.Core.Bool.{cond}
+use mathlib.Core.Bool.{Bool, true, false, cond}
+use mir.Val.{bool_byte}
 use mathlib.Core.List.{List}
 use native.Mathlib.Decide.{dec_lt}
 use native.Mathlib.Omega.{arith}
@@ -11,9 +12,12 @@ use lib.ListN.{length, get_or, take, length-take}
 use lib.Seq.{get_or-take}
 use Rattle.basics.specs.Lists.{array_places, filled}
 use Rattle.basics.proofs.ArrayOf32.{filled-length, filled_at, filled_at_empty}
-use Rattle.spec_util.specs.declared.types.OpenTag.{OpenTag}
-use Rattle.decoder_rules.specs.declared.types.WaitingEnd.{WaitingEnd}
-use Rattle.stored_decoder.specs.Words.{master_words, end_words}
+use Rattle.stored_decoder.specs.Words.{yes_no}
+
+-- a yes-or-no word as the library converts one
+pub yes_no_word : (b : Bool) → bool_byte b ≡ yes_no b
+yes_no_word true = refl
+yes_no_word false = refl
 
 module _ {A : Type 0} (none : A) (l : List A) (many : length l ≡ array_places) (n : ℕ) where
   pub used_length : length (filled none (take n l)) ≡ array_places
@@ -28,13 +32,3 @@ module _ {A : Type 0} (none : A) (l : List A) (many : length l ≡ array_places)
       go (no f) =
           let k : n ≤ i = omega arith in
           rw (le-ltb i n k) (filled_at_empty none (take n l) i (simp length-take (omega arith)))
-
--- the words of a master are six
-pub put_master_size : (m : OpenTag) → length (master_words m) ≡ 6
-unfolding master_words
-put_master_size m = refl
-
--- and those of an End three
-pub put_end_size : (e : WaitingEnd) → length (end_words e) ≡ 3
-unfolding end_words
-put_end_size e = refl

@@ -15,7 +15,8 @@ use Rattle.decoder_rules.proofs.MoveEffects.{Arrays}
 use Rattle.stored_decoder.specs.Words.{rest_count, master_words, end_words, front_words, decoder_words, places, masters_in, ends_in, is_yes, master_of, end_of, settings_of, record_of, clean_tag, clean_settings, cleaned}
 use Rattle.stored_decoder.specs.Check.{all_zero, good_front, good_master, good_end, good_places, good_words}
 use Rattle.stored_decoder.proofs.InPlaces.{places_of, zeros_zero}
-use Rattle.stored_decoder.proofs.UsedPlaces.{used_length, put_master_size, put_end_size}
+use Rattle.stored_decoder.proofs.UsedPlaces.{used_length}
+use Rattle.stored_decoder.specs.Places.{six, three}
 use Rattle.stored_decoder.proofs.Written.{masters_of, ends_of, masters_length, ends_length}
 use Rattle.stored_decoder.proofs.OwnWords.{yes_of_no, yes_no_good, value_good, master_good, master_of_lem, end_of_lem, masters_empty, ends_empty, places_good, is_good_words}
 
@@ -55,14 +56,14 @@ module _ (d : TagDecoder) (a : Arrays d) where
       let l = filled no_tag (opens d) in
       ap (places 6 array_places) after_front
       ∙ ap (λ (n : ℕ). places 6 n (masters_of d ++ (d.waiting_count ∷ (ends_of d ++ replicate rest_count 0)))) (sym (used_length no_tag d.«open» a.masters d.open_count))
-      ∙ places_of master_words 6 put_master_size l (d.waiting_count ∷ (ends_of d ++ replicate rest_count 0))
+      ∙ places_of master_words 6 six l (d.waiting_count ∷ (ends_of d ++ replicate rest_count 0))
 
   ends_in_lem : ends_in (decoder_words d) ≡ map end_words (filled no_end (waits d))
   ends_in_lem =
       let l = filled no_end (waits d) in
       ap (places 3 array_places) before_ends
       ∙ ap (λ (n : ℕ). places 3 n (ends_of d ++ replicate rest_count 0)) (sym (used_length no_end d.waiting a.ends d.waiting_count))
-      ∙ places_of end_words 3 put_end_size l (replicate rest_count 0)
+      ∙ places_of end_words 3 three l (replicate rest_count 0)
 
   -- ---- the words of a record are taken
 

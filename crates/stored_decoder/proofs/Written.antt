@@ -15,7 +15,8 @@ use Rattle.stored_decoder.specs.Block.{with_counts, from_layout1}
 use Rattle.stored_decoder.specs.Writing.{over}
 use Rattle.stored_decoder.proofs.Overwriting.{over-set, over_join, over_more, over_whole, flat_length}
 use Rattle.stored_decoder.proofs.InPlaces.{places-length, place_size}
-use Rattle.stored_decoder.proofs.UsedPlaces.{used_length, put_master_size, put_end_size}
+use Rattle.stored_decoder.proofs.UsedPlaces.{used_length}
+use Rattle.stored_decoder.specs.Places.{six, three}
 
 -- ---- the groups of a record's words
 
@@ -37,12 +38,12 @@ module _ (d : TagDecoder) (a : Arrays d) where
   pub masters_length : length (masters_of d) ≡ 192
   masters_length =
       let l = filled no_tag (opens d) in
-      flat_length master_words 6 l no_tag (λ j h. put_master_size (get_or l j no_tag)) ∙ ap (λ (n : ℕ). 6 * n) (used_length no_tag d.«open» a.masters d.open_count)
+      flat_length master_words 6 l no_tag (λ j h. six (get_or l j no_tag)) ∙ ap (λ (n : ℕ). 6 * n) (used_length no_tag d.«open» a.masters d.open_count)
 
   pub ends_length : length (ends_of d) ≡ 96
   ends_length =
       let l = filled no_end (waits d) in
-      flat_length end_words 3 l no_end (λ j h. put_end_size (get_or l j no_end)) ∙ ap (λ (n : ℕ). 3 * n) (used_length no_end d.waiting a.ends d.waiting_count)
+      flat_length end_words 3 l no_end (λ j h. three (get_or l j no_end)) ∙ ap (λ (n : ℕ). 3 * n) (used_length no_end d.waiting a.ends d.waiting_count)
 
   -- together they are 320 words
   pub words_length : length (decoder_words d) ≡ word_count

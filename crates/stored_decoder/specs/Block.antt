@@ -1,5 +1,5 @@
 -- Document 02, CR 14: "a block of 2,560 bytes, in 8-byte big-endian words", stored and restored; layout 1.
-use Rattle.std.specs.Prelude.{ℕ, ◌^◌, ◌<◌, cond, eqb, length, get_or, take, drop, replicate}
+use Rattle.std.specs.Prelude.{ℕ, ◌^◌, ◌<◌, cond, eqb, length, get_or, take, drop, replicate, Err, Ok, Result, ⊤}
 use mathlib.Core.List.{List, [], ◌∷◌, ◌++◌, map, flat_map}
 use Rattle.basics.specs.Lists.{array_places}
 use Rattle.tools.specs.Bytes.{be_number, be_bytes}
@@ -7,10 +7,9 @@ use Rattle.decoder_rules.specs.OneCall.{good_state}
 use Rattle.decoder_rules.specs.declared.types.TagDecoder.{TagDecoder}
 use Rattle.stored_decoder.specs.Words.{word_count, rest_count, places, decoder_words, record_of}
 use Rattle.stored_decoder.specs.Check.{all_zero, check_words}
-use Rattle.stored_decoder.specs.declared.types.Acceptance.{Acceptance}
-use Rattle.stored_decoder.specs.declared.types.Acceptance.TheVariants.{Accepted, Refused}
 use Rattle.stored_decoder.specs.declared.types.Restored.{Restored}
 use Rattle.stored_decoder.specs.declared.types.StoreError.TheVariants.{BlockLength, UnusedSet, BadState}
+use Rattle.stored_decoder.specs.declared.types.StoreError.{StoreError}
 
 -- "2,560 bytes"
 abbrev pub block_length : ℕ
@@ -36,18 +35,18 @@ block d = bytes_of (decoder_words d)
 
 -- what storing a record answers, and what is lent after it: a refusal writes nothing. `n` is the length that is wanted,
 -- `stored` the record
-unfoldable pub store_as : ℕ → List ℕ → TagDecoder → List ℕ → Acceptance × List ℕ
+unfoldable pub store_as : ℕ → List ℕ → TagDecoder → List ℕ → Result ⊤ StoreError × List ℕ
 store_as n stored d lent =
     cond (eqb (length lent) n)
-    (cond (good_state d) (Accepted, stored) (Refused BadState, lent))
-    (Refused BlockLength, lent)
+    (cond (good_state d) (Ok tt, stored) (Err BadState, lent))
+    (Err BlockLength, lent)
 
 -- in words
-abbrev pub store_words : TagDecoder → List ℕ → Acceptance × List ℕ
+abbrev pub store_words : TagDecoder → List ℕ → Result ⊤ StoreError × List ℕ
 store_words d w = store_as word_count (decoder_words d) d w
 
 -- in a block
-abbrev pub store_out : TagDecoder → List ℕ → Acceptance × List ℕ
+abbrev pub store_out : TagDecoder → List ℕ → Result ⊤ StoreError × List ℕ
 store_out d b = store_as block_length (block d) d b
 
 -- ---- layout 1, which "lacks the strict word and the child count words"
@@ -69,13 +68,13 @@ from_layout1 w =
 -- ---- restoring
 
 -- a refusal: the record stays
-abbrev pub stays : TagDecoder → Acceptance → Restored
+abbrev pub stays : TagDecoder → Result ⊤ StoreError → Restored
 stays d a = record { answer = a; state = d }
 
 -- the record of words in layout 2 where they are accepted, else the record stays
-abbrev pub record_if_taken : TagDecoder → List ℕ → Acceptance → Restored
-record_if_taken d w Accepted = record { answer = Accepted; state = record_of w }
-record_if_taken d w (Refused e) = stays d (Refused e)
+abbrev pub record_if_taken : TagDecoder → List ℕ → Result ⊤ StoreError → Restored
+record_if_taken d w (Ok _) = record { answer = Ok tt; state = record_of w }
+record_if_taken d w (Err e) = stays d (Err e)
 
 -- from words in layout 2
 abbrev pub restore_words : TagDecoder → List ℕ → Restored
@@ -83,7 +82,7 @@ restore_words d w = record_if_taken d w (check_words w)
 
 -- from words in layout 1: 235 of them are in use
 unfoldable pub restore_layout1 : TagDecoder → List ℕ → Restored
-restore_layout1 d w = cond (all_zero (drop 235 w)) (restore_words d (from_layout1 w)) (stays d (Refused UnusedSet))
+restore_layout1 d w = cond (all_zero (drop 235 w)) (restore_words d (from_layout1 w)) (stays d (Err UnusedSet))
 
 -- from words in either layout
 unfoldable pub restore_either : TagDecoder → List ℕ → Restored
@@ -91,4 +90,4 @@ restore_either d w = cond (eqb (get_or w 0 0) 1) (restore_layout1 d w) (restore_
 
 -- what restoring a block over a record answers, and the record after it
 unfoldable pub restore_from : TagDecoder → List ℕ → Restored
-restore_from d b = cond (eqb (length b) block_length) (restore_either d (words_of b)) (stays d (Refused BlockLength))
+restore_from d b = cond (eqb (length b) block_length) (restore_either d (words_of b)) (stays d (Err BlockLength))

@@ -1,12 +1,11 @@
 -- What words are taken for a record's in layout 2: refusals 90 (other than 320 words), 91, 92 and 11 of document 02,
 -- CR 14.
-use Rattle.std.specs.Prelude.{ℕ, Bool, true, cond, ◌&&◌, ◌||◌, List, leb, eqb, length, get_or, take, drop}
+use Rattle.std.specs.Prelude.{ℕ, Bool, true, cond, ◌&&◌, ◌||◌, List, leb, eqb, length, get_or, take, drop, Err, Ok, Result, ⊤}
 use Rattle.basics.specs.Lists.{every}
 use Rattle.decoder_rules.specs.OneCall.{good_state}
 use Rattle.stored_decoder.specs.Words.{word_count, masters_in, ends_in, is_yes, record_of}
-use Rattle.stored_decoder.specs.declared.types.Acceptance.{Acceptance}
-use Rattle.stored_decoder.specs.declared.types.Acceptance.TheVariants.{Accepted, Refused}
 use Rattle.stored_decoder.specs.declared.types.StoreError.TheVariants.{BlockLength, UnknownLayout, UnusedSet, BadState}
+use Rattle.stored_decoder.specs.declared.types.StoreError.{StoreError}
 
 -- not "a yes-or-no word over 1"
 abbrev pub is_yes_no : ℕ → Bool
@@ -49,12 +48,12 @@ good_words w =
     && all_zero (drop 300 w)))
 
 -- whether words are a record's in layout 2, and why not
-unfoldable pub check_words : List ℕ → Acceptance
+unfoldable pub check_words : List ℕ → Result ⊤ StoreError
 check_words w =
     cond (eqb (length w) word_count)
     (cond (eqb (get_or w 0 0) 2)
     (cond (good_words w)
-    (cond (good_state (record_of w)) Accepted (Refused BadState))
-    (Refused UnusedSet))
-    (Refused UnknownLayout))
-    (Refused BlockLength)
+    (cond (good_state (record_of w)) (Ok tt) (Err BadState))
+    (Err UnusedSet))
+    (Err UnknownLayout))
+    (Err BlockLength)

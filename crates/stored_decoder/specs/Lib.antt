@@ -4,3 +4,4 @@ pub mod Check
 pub mod Block
 pub mod Writing
 pub mod Layout1
+pub mod Places

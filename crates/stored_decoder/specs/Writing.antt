@@ -1,11 +1,20 @@
 -- What only the contracts of this crate's helpers cite.
-use Rattle.std.specs.Prelude.{ℕ, ◌+◌, Bool, true, false, List, ◌++◌, ◌≡◌, length, take, drop}
+use Rattle.std.specs.Prelude.{ℕ, ◌+◌, List, ◌++◌, length, take, drop, cond, eqb, Ok, Err, Result, ⊤}
+use Rattle.decoder_rules.specs.OneCall.{good_state}
+use Rattle.decoder_rules.specs.declared.types.TagDecoder.{TagDecoder}
+use Rattle.stored_decoder.specs.declared.types.Restored.{Restored}
+use Rattle.stored_decoder.specs.declared.types.StoreError.{StoreError}
+use Rattle.stored_decoder.specs.declared.types.StoreError.TheVariants.{BlockLength, BadState}
 
 -- a list with others written over it from place i on
 unfoldable pub over : {A : Type 0} → ℕ → List A → List A → List A
 over i l m = take i m ++ (l ++ drop (i + length l) m)
 
--- a test says whether two lists are the same
-pub record SameWords (r : Bool) (a b : List ℕ) : Type 0 where
-  pub yes : r ≡ true → a ≡ b
-  pub no : r ≡ false → a ≡ b → ⊥
+-- whether a record may be stored in room of length n, where `wanted` is wanted
+abbrev pub may_store : ℕ → ℕ → TagDecoder → Result ⊤ StoreError
+may_store wanted n d = cond (eqb n wanted) (cond (good_state d) (Ok tt) (Err BadState)) (Err BlockLength)
+
+-- the answer, and the record after it: the one that was found, or the old one
+abbrev pub restored : TagDecoder → Result TagDecoder StoreError → Restored
+restored d (Ok s) = record { answer = Ok tt; state = s }
+restored d (Err e) = record { answer = Err e; state = d }

@@ -1,4 +1,4 @@
-// Words in layout 1.
+//! Words in layout 1.
 
 ghost use Rattle.std.specs.Prelude.{◌≡◌, ◌+◌, ◌*◌, ◌≤◌, length, take, drop};
 ghost use Rattle.stored_decoder.specs.Words.{word_count};
@@ -9,16 +9,15 @@ ghost use Rattle.stored_decoder.specs.Writing.{over};
 use crate::words::put_rest;
 use spec_util::types::MOST_OPEN;
 
+/// So many words of a block in layout 1 are in use.
+pub const IN_USE: usize = 235;
+
 // So many words copied to another place.
 fn copy(out: &mut [u64], to: usize, words: &[u64], from: usize, n: usize)
     requires { (to + n ≤ length out.old) × (from + n ≤ length words.now) }
     ensures { out.new ≡ over to (take n (drop from words.now)) out.old }
 {
-    let mut i: usize = 0;
-    while i < n {
-        out[to + i] = words[from + i];
-        i += 1;
-    }
+    out[to..to + n].copy_from_slice(&words[from..from + n]);
 }
 
 // The words of 32 places, each with a 0 for the count that it lacks.
@@ -26,15 +25,13 @@ fn copy_places(out: &mut [u64], to: usize, words: &[u64], from: usize, size: usi
     requires { (to + (size + 1) * 32 ≤ length out.old) × (from + size * 32 ≤ length words.now) × (size ≤ 5) × (length out.old ≡ word_count) × (length words.now ≡ word_count) }
     ensures { out.new ≡ over to (with_counts size (drop from words.now)) out.old }
 {
-    let mut i: usize = 0;
-    while i < MOST_OPEN {
+    for i in 0..MOST_OPEN {
         copy(out, to + (size + 1) * i, words, from + size * i, size);
         out[to + (size + 1) * i + size] = 0;
-        i += 1;
     }
 }
 
-// The words in use as layout 2.
+/// The words in use as layout 2.
 pub fn from_layout_1(words: &[u64], out: &mut [u64])
     requires { (length words.now ≡ word_count) × (length out.old ≡ word_count) }
     ensures { out.new ≡ from_layout1 words.now }
@@ -49,16 +46,9 @@ pub fn from_layout_1(words: &[u64], out: &mut [u64])
     put_rest(out);
 }
 
-// Whether the words that are not in use hold 0.
-pub fn rest_is_zero(words: &[u64]) -> bool
-    ensures { result ≡ all_zero (drop 235 words.now) }
+/// Whether each word holds 0, as those that layout 1 does not use must.
+pub fn all_zero(words: &[u64]) -> bool
+    ensures { result ≡ all_zero words.now }
 {
-    let mut i: usize = 235;
-    while i < words.len() {
-        if words[i] != 0 {
-            return false;
-        }
-        i += 1;
-    }
-    true
+    words.iter().all(|&word| word == 0)
 }

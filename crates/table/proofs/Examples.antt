@@ -9,10 +9,10 @@ use Rattle.table.specs.BenchTable.{bench_entries, bench_parts, bench}
 use Rattle.table.specs.Shape.{good_shape}
 use Rattle.table.specs.Check.{check_table}
 use Rattle.table.specs.declared.types.TagDataType.TheVariants.{Untyped, Master, UnsignedInt, Binary, Float}
-use Rattle.table.specs.declared.types.Bound.TheVariants.{NotGiven}
 use Rattle.table.specs.declared.types.PathPart.TheVariants.{Id, Global}
 use Rattle.table.specs.declared.types.Rule.TheVariants.{NoElementId, Repeated, GlobalInMaster, NoMaster, OtherPath}
-use Rattle.table.specs.declared.types.Checked.TheVariants.{Passed, Fault}
+use Rattle.std.specs.Prelude.{Err, None, Ok}
+use Rattle.table.specs.declared.types.TableError.TheVariants as fault
 
 -- what is looked up in the bench table
 pub record LookUps : Type 0 where
@@ -20,7 +20,7 @@ pub record LookUps : Type 0 where
   pub feed : (data_type_of bench 0xA1 ≡ Master) × (path_of bench 0xA1 ≡ Id 0x4E01 ∷ [])
   pub amount : (data_type_of bench 0xA2 ≡ UnsignedInt) × (path_of bench 0xA2 ≡ Id 0x4E01 ∷ Id 0xA1 ∷ [])
   pub rate : data_type_of bench 0xA6 ≡ Float
-  pub void : (data_type_of bench 0xEC ≡ Binary) × (path_of bench 0xEC ≡ Global NotGiven NotGiven ∷ [])
+  pub void : (data_type_of bench 0xEC ≡ Binary) × (path_of bench 0xEC ≡ Global None None ∷ [])
   pub none : (data_type_of bench 0xEE ≡ Untyped) × (path_of bench 0xEE ≡ [])
 
 pub look_ups : LookUps
@@ -39,18 +39,18 @@ abbrev parts : List ℕ
 parts = 0 ∷ 0x81 ∷ 0 ∷ 0 ∷ 0x82 ∷ 0 ∷ 1 ∷ 2 ∷ 3 ∷ []
 
 pub record Checks : Type 0 where
-  pub bench_passes : check_table bench_entries bench_parts ≡ Passed
-  pub empty_passes : check_table [] [] ≡ Passed
+  pub bench_passes : check_table bench_entries bench_parts ≡ Ok tt
+  pub empty_passes : check_table [] [] ≡ Ok tt
   -- 1 is accepted by `is_vint` and is no Element ID; 407F is one, in the shortest form that its data has
-  pub one : check_table (1 ∷ 0 ∷ 0 ∷ 0 ∷ []) [] ≡ Fault NoElementId 0
-  pub two_bytes : check_table (0x407F ∷ 0 ∷ 0 ∷ 0 ∷ 0x407E ∷ 0 ∷ 0 ∷ 0 ∷ []) [] ≡ Fault NoElementId 1
-  pub twice : check_table (0x81 ∷ 0 ∷ 0 ∷ 0 ∷ 0x81 ∷ 1 ∷ 0 ∷ 0 ∷ []) [] ≡ Fault Repeated 1
-  pub global : check_table (0x81 ∷ 0 ∷ 2 ∷ 1 ∷ []) parts ≡ Fault GlobalInMaster 0
-  pub no_entry : check_table (0x82 ∷ 0 ∷ 0 ∷ 1 ∷ []) parts ≡ Fault NoMaster 0
-  pub no_master_lem : check_table (0x81 ∷ 1 ∷ 0 ∷ 0 ∷ 0x82 ∷ 0 ∷ 0 ∷ 1 ∷ []) parts ≡ Fault NoMaster 1
-  pub other_path : check_table (0x81 ∷ 0 ∷ 0 ∷ 0 ∷ 0x82 ∷ 0 ∷ 0 ∷ 0 ∷ 0x83 ∷ 1 ∷ 0 ∷ 2 ∷ []) parts ≡ Fault OtherPath 2
+  pub one : check_table (1 ∷ 0 ∷ 0 ∷ 0 ∷ []) [] ≡ Err (fault.Fault NoElementId 0)
+  pub two_bytes : check_table (0x407F ∷ 0 ∷ 0 ∷ 0 ∷ 0x407E ∷ 0 ∷ 0 ∷ 0 ∷ []) [] ≡ Err (fault.Fault NoElementId 1)
+  pub twice : check_table (0x81 ∷ 0 ∷ 0 ∷ 0 ∷ 0x81 ∷ 1 ∷ 0 ∷ 0 ∷ []) [] ≡ Err (fault.Fault Repeated 1)
+  pub global : check_table (0x81 ∷ 0 ∷ 2 ∷ 1 ∷ []) parts ≡ Err (fault.Fault GlobalInMaster 0)
+  pub no_entry : check_table (0x82 ∷ 0 ∷ 0 ∷ 1 ∷ []) parts ≡ Err (fault.Fault NoMaster 0)
+  pub no_master_lem : check_table (0x81 ∷ 1 ∷ 0 ∷ 0 ∷ 0x82 ∷ 0 ∷ 0 ∷ 1 ∷ []) parts ≡ Err (fault.Fault NoMaster 1)
+  pub other_path : check_table (0x81 ∷ 0 ∷ 0 ∷ 0 ∷ 0x82 ∷ 0 ∷ 0 ∷ 0 ∷ 0x83 ∷ 1 ∷ 0 ∷ 2 ∷ []) parts ≡ Err (fault.Fault OtherPath 2)
   -- a Global and an ID after it that is no Master: 33 comes before 34
-  pub both : check_table (0x81 ∷ 0 ∷ 2 ∷ 2 ∷ []) (parts ++ (0 ∷ 0x85 ∷ 0 ∷ [])) ≡ Fault GlobalInMaster 0
+  pub both : check_table (0x81 ∷ 0 ∷ 2 ∷ 2 ∷ []) (parts ++ (0 ∷ 0x85 ∷ 0 ∷ [])) ≡ Err (fault.Fault GlobalInMaster 0)
   -- the first part plus the number is one past the parts, also for an empty path, and never wraps
   pub past : good_shape (0x81 ∷ 0 ∷ 3 ∷ 1 ∷ []) parts ≡ false
   pub at_end : good_shape (0x81 ∷ 0 ∷ 3 ∷ 0 ∷ []) parts ≡ true

@@ -10,15 +10,14 @@ use lib.ListN.{length, get_or, take, drop, drop_of_length-le}
 use lib.Seq.{drop-cons, take-suc}
 use Rattle.table.specs.Table.{Entry, parts_of, parts_in, table_of, unlisted, spec_of, path_of, same_path}
 use Rattle.table.specs.Check.{allowed_id, listed, master_of_ids, all_masters, own_paths, keeps, judged, fault_or, check_from}
-use Rattle.table.specs.declared.types.Bound.{Bound}
 use Rattle.table.specs.declared.types.PathPart.{PathPart}
 use Rattle.table.specs.declared.types.PathPart.TheVariants.{Id, Global}
 use Rattle.table.specs.declared.types.Spec.{Spec}
 use Rattle.table.specs.declared.types.Rule.{Rule}
 use Rattle.table.specs.declared.types.Rule.TheVariants.{NoElementId, Repeated, GlobalInMaster, NoMaster, OtherPath}
-use Rattle.table.specs.declared.types.Judged.TheVariants.{Sound, Breaks}
-use Rattle.table.specs.declared.types.Checked.TheVariants.{Fault}
 use Rattle.table.proofs.Entries.{id_at, path_at}
+use Rattle.std.specs.Prelude.{Err, Ok, Option}
+use Rattle.table.specs.declared.types.TableError.TheVariants as fault
 
 -- ---- rule 35 along a path
 
@@ -32,7 +31,7 @@ module _ (t : List Entry) (path : List PathPart) (z : PathPart) (i : ℕ) (h : i
   unfolding own_paths
   own_next e y = rw (add-one, take-suc path i z h, drop-cons path i z h, e, y)
 
-  pub own_global : {least most : Bound} → get_or path i z ≡ Global least most → own_paths t (take i path) (drop i path) ≡ true
+  pub own_global : {least most : Option ℕ} → get_or path i z ≡ Global least most → own_paths t (take i path) (drop i path) ≡ true
   unfolding own_paths
   own_global e = rw (drop-cons path i z h, e)
 
@@ -67,12 +66,12 @@ module _ (es ps : List ℕ) (i : ℕ) {s : Spec} (read : s ≡ spec_of (get_or (
 -- ---- the entries in turn
 
 module _ (t : List Entry) (i : ℕ) where
-  pub check_stops : (n : ℕ) (r : Rule) → 0 < n → judged t i ≡ Breaks r → check_from t n i ≡ Fault r i
+  pub check_stops : (n : ℕ) (r : Rule) → 0 < n → judged t i ≡ Err r → check_from t n i ≡ Err (fault.Fault r i)
   unfolding check_from fault_or
   check_stops zero r h e = absurd (omega arith)
   check_stops (suc n) r h e = rw e
 
-  pub check_goes_on : (n : ℕ) → 0 < n → judged t i ≡ Sound → check_from t n i ≡ check_from t (n - 1) (i + 1)
+  pub check_goes_on : (n : ℕ) → 0 < n → judged t i ≡ Ok tt → check_from t n i ≡ check_from t (n - 1) (i + 1)
   unfolding check_from fault_or
   check_goes_on zero h e = absurd (omega arith)
   check_goes_on (suc n) h e = let o : suc n - 1 ≡ n = omega arith in rw (e, o)

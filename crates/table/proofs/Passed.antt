@@ -20,12 +20,11 @@ use Rattle.table.specs.Check.{rule_number, keeps, rules, first_broken, judged, f
 use Rattle.table.specs.Passed.{at, Kept, PassedTable, LowestFault}
 use Rattle.table.specs.declared.types.Rule.{Rule}
 use Rattle.table.specs.declared.types.Rule.TheVariants.{NoElementId, Repeated, GlobalInMaster, NoMaster, OtherPath}
-use Rattle.table.specs.declared.types.Judged.{Judged}
-use Rattle.table.specs.declared.types.Judged.TheVariants.{Sound, Breaks}
-use Rattle.table.specs.declared.types.Checked.{Checked}
-use Rattle.table.specs.declared.types.Checked.TheVariants.{BadShape, Passed, Fault}
 use Rattle.basics.proofs.Every.{every_member}
 use Rattle.table.proofs.Rules.{kept_sound, kept_complete}
+use Rattle.std.specs.Prelude.{Err, Ok, Result, ⊤}
+use Rattle.table.specs.declared.types.TableError.{TableError}
+use Rattle.table.specs.declared.types.TableError.TheVariants as fault
 
 -- ---- the first broken rule of a list with numbers that ascend
 
@@ -34,9 +33,9 @@ ascending [] = true
 ascending (r ∷ rs) = every (λ (s : Rule). ltb (rule_number r) (rule_number s)) rs && ascending rs
 
 -- what the first broken rule is
-abbrev First : (Rule → Bool) → List Rule → Judged → Type 0
-First kept rs Sound = (s : Rule) → Memᴰ s rs → kept s ≡ true
-First kept rs (Breaks r) = (kept r ≡ false) × ((s : Rule) → Memᴰ s rs → rule_number s < rule_number r → kept s ≡ true) × Memᴰ r rs
+abbrev First : (Rule → Bool) → List Rule → Result ⊤ Rule → Type 0
+First kept rs (Ok _) = (s : Rule) → Memᴰ s rs → kept s ≡ true
+First kept rs (Err r) = (kept r ≡ false) × ((s : Rule) → Memᴰ s rs → rule_number s < rule_number r → kept s ≡ true) × Memᴰ r rs
 
 first_of : (kept : Rule → Bool) (rs : List Rule) → ascending rs ≡ true → First kept rs (first_broken kept rs)
 unfolding first_broken ascending
@@ -46,9 +45,9 @@ first_of kept (r ∷ rs) up = go (kept r) refl (first_broken kept rs) (first_of 
     split : (every (λ (s : Rule). ltb (rule_number r) (rule_number s)) rs ≡ true) × (ascending rs ≡ true)
     split = (and-eq-true_iff _ _).0 up
 
-    go : (b : Bool) → kept r ≡ b → (j : Judged) → First kept rs j → First kept (r ∷ rs) (cond b j (Breaks r))
-    go true e Sound f = λ s m. ⊎_elim (λ q. ap kept q ∙ e) (λ m'. f s m') (Memᴰ.cases_cons m)
-    go true e (Breaks q) f = (f.0, λ s m l. ⊎_elim (λ p. ap kept p ∙ e) (λ m'. f.1 s m' l) (Memᴰ.cases_cons m), Memᴰ.tail f.2)
+    go : (b : Bool) → kept r ≡ b → (j : Result ⊤ Rule) → First kept rs j → First kept (r ∷ rs) (cond b j (Err r))
+    go true e (Ok _) f = λ s m. ⊎_elim (λ q. ap kept q ∙ e) (λ m'. f s m') (Memᴰ.cases_cons m)
+    go true e (Err q) f = (f.0, λ s m l. ⊎_elim (λ p. ap kept p ∙ e) (λ m'. f.1 s m' l) (Memᴰ.cases_cons m), Memᴰ.tail f.2)
     go false e j f = (e, λ s m l. ⊎_elim (λ p. absurd (self s p l)) (λ m'. absurd (over s m' l)) (Memᴰ.cases_cons m), Memᴰ.head refl)
       where
         self : (s : Rule) → s ≡ r → rule_number s < rule_number r → ⊥
@@ -67,48 +66,48 @@ in_rules NoMaster = Memᴰ.tail (Memᴰ.tail (Memᴰ.tail (Memᴰ.head refl)))
 in_rules OtherPath = Memᴰ.tail (Memᴰ.tail (Memᴰ.tail (Memᴰ.tail (Memᴰ.head refl))))
 
 module _ (t : List Entry) (i : ℕ) (h : i < length t) where
-  verdict : (v : Judged) → judged t i ≡ v → First (keeps t i (at t i)) rules v
+  verdict : (v : Result ⊤ Rule) → judged t i ≡ v → First (keeps t i (at t i)) rules v
   unfolding ascending every
   verdict v e = subst (First (keeps t i (at t i)) rules) e (first_of (keeps t i (at t i)) rules refl)
 
-  sound_entry : judged t i ≡ Sound → ((r : Rule) → Kept t i r)
-  sound_entry e r = kept_sound t i h r (verdict Sound e r (in_rules r))
+  sound_entry : judged t i ≡ Ok tt → ((r : Rule) → Kept t i r)
+  sound_entry e r = kept_sound t i h r (verdict (Ok tt) e r (in_rules r))
 
-  broken_entry : {r : Rule} → judged t i ≡ Breaks r → (Kept t i r → ⊥) × ((s : Rule) → rule_number s < rule_number r → Kept t i s)
+  broken_entry : {r : Rule} → judged t i ≡ Err r → (Kept t i r → ⊥) × ((s : Rule) → rule_number s < rule_number r → Kept t i s)
   broken_entry {r} e =
-      let f = verdict (Breaks r) e in
+      let f = verdict (Err r) e in
       (λ k. true≢false (sym (kept_complete t i h r k) ∙ f.0), λ s l. kept_sound t i h s (f.1 s (in_rules s) l))
 
-  entry_sound : ((r : Rule) → Kept t i r) → judged t i ≡ Sound
+  entry_sound : ((r : Rule) → Kept t i r) → judged t i ≡ Ok tt
   entry_sound k = go (judged t i) refl
     where
-      go : (v : Judged) → judged t i ≡ v → judged t i ≡ Sound
-      go Sound e = e
-      go (Breaks r) e = absurd ((broken_entry e).0 (k r))
+      go : (v : Result ⊤ Rule) → judged t i ≡ v → judged t i ≡ Ok tt
+      go (Ok _) e = e
+      go (Err r) e = absurd ((broken_entry e).0 (k r))
 
 -- ---- the entries in turn: what the check of n entries from i on says
 
-abbrev Checks : List Entry → ℕ → ℕ → Checked → Type 0
-Checks t n i BadShape = ⊥
-Checks t n i Passed = (j : ℕ) → i ≤ j → j < i + n → judged t j ≡ Sound
-Checks t n i (Fault r k) =
-    (i ≤ k) × (k < i + n) × (judged t k ≡ Breaks r) × ((j : ℕ) → i ≤ j → j < k → judged t j ≡ Sound)
+abbrev Checks : List Entry → ℕ → ℕ → Result ⊤ TableError → Type 0
+Checks t n i (Err fault.BadShape) = ⊥
+Checks t n i (Ok _) = (j : ℕ) → i ≤ j → j < i + n → judged t j ≡ Ok tt
+Checks t n i (Err (fault.Fault r k)) =
+    (i ≤ k) × (k < i + n) × (judged t k ≡ Err r) × ((j : ℕ) → i ≤ j → j < k → judged t j ≡ (Ok tt))
 
 checks : (t : List Entry) (n i : ℕ) → Checks t n i (check_from t n i)
 unfolding check_from fault_or
 checks t zero i = λ j l h. absurd (omega arith)
 checks t (suc n) i = go (judged t i) refl (check_from t n (i + 1)) (checks t n (i + 1))
   where
-    go : (v : Judged) → judged t i ≡ v → (c : Checked) → Checks t n (i + 1) c → Checks t (suc n) i (fault_or v i c)
-    go Sound e BadShape f = f
-    go Sound e Passed f = λ j l h. ⊎_elim (λ q. rw (← q) e) (λ (m : i < j). f j (omega arith) (omega arith)) (eq-or-lt_of_le l)
-    go Sound e (Fault r k) f =
+    go : (v : Result ⊤ Rule) → judged t i ≡ v → (c : Result ⊤ TableError) → Checks t n (i + 1) c → Checks t (suc n) i (fault_or v i c)
+    go (Ok _) e (Err fault.BadShape) f = f
+    go (Ok _) e (Ok _) f = λ j l h. ⊎_elim (λ q. rw (← q) e) (λ (m : i < j). f j (omega arith) (omega arith)) (eq-or-lt_of_le l)
+    go (Ok _) e (Err (fault.Fault r k)) f =
         let a : i + 1 ≤ k = f.0 in
         let b : k < i + 1 + n = f.1 in
         (omega arith, omega arith, f.2, λ j l h. ⊎_elim (λ q. rw (← q) e) (λ (m : i < j). f.3 j (omega arith) h) (eq-or-lt_of_le l))
-    go (Breaks r) e c f = (omega arith, omega arith, e, λ j l h. absurd (omega arith))
+    go (Err r) e c f = (omega arith, omega arith, e, λ j l h. absurd (omega arith))
 
-all_checked : (t : List Entry) (c : Checked) → check_from t (length t) 0 ≡ c → Checks t (length t) 0 c
+all_checked : (t : List Entry) (c : Result ⊤ TableError) → check_from t (length t) 0 ≡ c → Checks t (length t) 0 c
 all_checked t c e = subst (Checks t (length t) 0) e (checks t (length t) 0)
 
 passed_kept : (t : List Entry) → PassedTable t → (i : ℕ) → i < length t → (r : Rule) → Kept t i r
@@ -132,7 +131,7 @@ back GlobalInMaster = refl
 back NoMaster = refl
 back OtherPath = refl
 
-fault_one : (t : List Entry) (q r : Rule) (k i : ℕ) → LowestFault t q k → LowestFault t r i → Fault q k ≡ Fault r i
+fault_one : (t : List Entry) (q r : Rule) (k i : ℕ) → LowestFault t q k → LowestFault t r i → ◌≡◌ {A = Result ⊤ TableError} (Err (fault.Fault q k)) (Err (fault.Fault r i))
 fault_one t q r k i g f =
     let under : k < i → ⊥ = λ l. g.broken (f.lowest k l q) in
     let over : i < k → ⊥ = λ l. f.broken (g.lowest i l r) in
@@ -140,18 +139,18 @@ fault_one t q r k i g f =
     let before : rule_number q < rule_number r → ⊥ = λ l. g.broken (subst (λ (j : ℕ). Kept t j q) (sym e) (f.first q l)) in
     let after : rule_number r < rule_number q → ⊥ = λ l. f.broken (subst (λ (j : ℕ). Kept t j r) e (g.first r l)) in
     let n : rule_number q ≡ rule_number r = omega arith in
-    ap₂ Fault (sym (back q) ∙ ap rule_of n ∙ back r) e
+    ap₂ (λ r i. Err (fault.Fault r i)) (sym (back q) ∙ ap rule_of n ∙ back r) e
 
 -- ---- the check
 
-fault_not_bad : {r : Rule} {i : ℕ} → Fault r i ≡ BadShape → ⊥
+fault_not_bad : {r : Rule} {i : ℕ} → ◌≡◌ {A = Result ⊤ TableError} (Err (fault.Fault r i)) (Err fault.BadShape) → ⊥
 fault_not_bad e = let z : ◌≡◌ {A = ℕ} 0 1 = cc in omega arith
 
-passed_not_bad : ◌≡◌ {A = Checked} Passed BadShape → ⊥
+passed_not_bad : ◌≡◌ {A = Result ⊤ TableError} (Ok tt) (Err fault.BadShape) → ⊥
 passed_not_bad e = let z : ◌≡◌ {A = ℕ} 0 1 = cc in omega arith
 
 module _ (es ps : List ℕ) where
-  pub shape_bad : good_shape es ps ≡ false → check_table es ps ≡ BadShape
+  pub shape_bad : good_shape es ps ≡ false → check_table es ps ≡ Err fault.BadShape
   unfolding check_table
   shape_bad e = rw e
 
@@ -160,7 +159,7 @@ module _ (es ps : List ℕ) where
   shape_good e = rw e
 
   -- an answer other than BadShape is of a table of good shape
-  pub answered : (check_table es ps ≡ BadShape → ⊥) → good_shape es ps ≡ true
+  pub answered : (check_table es ps ≡ Err fault.BadShape → ⊥) → good_shape es ps ≡ true
   answered n = go (good_shape es ps) refl
     where
       go : (b : Bool) → good_shape es ps ≡ b → good_shape es ps ≡ true
@@ -168,7 +167,7 @@ module _ (es ps : List ℕ) where
       go false e = absurd (n (shape_bad e))
 
   -- a table that passes has the facts
-  pub passed_gives : check_table es ps ≡ Passed → PassedTable (table_of es ps)
+  pub passed_gives : check_table es ps ≡ Ok tt → PassedTable (table_of es ps)
   passed_gives e = record {
     allowed = λ i h. kept i h NoElementId;
     once = λ i j hi hj q. go i j hi hj q (dec_le (suc i) j) (dec_le (suc j) i);
@@ -181,7 +180,7 @@ module _ (es ps : List ℕ) where
       t = table_of es ps
 
       kept : (i : ℕ) → i < length t → (r : Rule) → Kept t i r
-      kept i h = sound_entry t i h (all_checked t Passed (sym (shape_good (answered (λ q. passed_not_bad (sym e ∙ q)))) ∙ e) i (omega arith) (omega arith))
+      kept i h = sound_entry t i h (all_checked t (Ok tt) (sym (shape_good (answered (λ q. passed_not_bad (sym e ∙ q)))) ∙ e) i (omega arith) (omega arith))
 
       go : (i j : ℕ) → i < length t → j < length t → (at t i).id ≡ (at t j).id → Dec (i < j) → Dec (j < i) → i ≡ j
       go i j hi hj q (yes l) d = absurd (kept j hj Repeated i l q)
@@ -189,22 +188,22 @@ module _ (es ps : List ℕ) where
       go i j hi hj q (no n) (no m) = omega arith
 
   -- and a table of good shape with the facts passes
-  pub passes_where : good_shape es ps ≡ true → PassedTable (table_of es ps) → check_table es ps ≡ Passed
+  pub passes_where : good_shape es ps ≡ true → PassedTable (table_of es ps) → check_table es ps ≡ Ok tt
   passes_where good p = shape_good good ∙ go (check_from t (length t) 0) refl
     where
       t : List Entry
       t = table_of es ps
 
-      go : (c : Checked) → check_from t (length t) 0 ≡ c → check_from t (length t) 0 ≡ Passed
-      go BadShape e = absurd (all_checked t BadShape e)
-      go Passed e = e
-      go (Fault r k) e =
-          let f = all_checked t (Fault r k) e in
+      go : (c : Result ⊤ TableError) → check_from t (length t) 0 ≡ c → check_from t (length t) 0 ≡ Ok tt
+      go (Err fault.BadShape) e = absurd (all_checked t (Err fault.BadShape) e)
+      go (Ok _) e = e
+      go (Err (fault.Fault r k)) e =
+          let f = all_checked t (Err (fault.Fault r k)) e in
           let h : k < length t = omega arith in
           absurd ((broken_entry t k h f.2).0 (passed_kept t p k h r))
 
   -- a fault that is named is the lowest, and its rule the first
-  pub fault_is : {r : Rule} {i : ℕ} → check_table es ps ≡ Fault r i → LowestFault (table_of es ps) r i
+  pub fault_is : {r : Rule} {i : ℕ} → check_table es ps ≡ Err (fault.Fault r i) → LowestFault (table_of es ps) r i
   fault_is {r} {i} e = record {
     there = there;
     broken = here.0;
@@ -215,8 +214,8 @@ module _ (es ps : List ℕ) where
       t : List Entry
       t = table_of es ps
 
-      f : Checks t (length t) 0 (Fault r i)
-      f = all_checked t (Fault r i) (sym (shape_good (answered (λ q. fault_not_bad (sym e ∙ q)))) ∙ e)
+      f : Checks t (length t) 0 (Err (fault.Fault r i))
+      f = all_checked t (Err (fault.Fault r i)) (sym (shape_good (answered (λ q. fault_not_bad (sym e ∙ q)))) ∙ e)
 
       there : i < length t
       there = let b : i < 0 + length t = f.1 in omega arith
@@ -225,10 +224,10 @@ module _ (es ps : List ℕ) where
       here = broken_entry t i there f.2
 
   -- and where there is one, the check names it
-  pub fault_where : {r : Rule} {i : ℕ} → good_shape es ps ≡ true → LowestFault (table_of es ps) r i → check_table es ps ≡ Fault r i
+  pub fault_where : {r : Rule} {i : ℕ} → good_shape es ps ≡ true → LowestFault (table_of es ps) r i → check_table es ps ≡ Err (fault.Fault r i)
   fault_where {r} {i} good f = go (check_table es ps) refl
     where
-      go : (c : Checked) → check_table es ps ≡ c → check_table es ps ≡ Fault r i
-      go BadShape e = absurd (all_checked (table_of es ps) BadShape (sym (shape_good good) ∙ e))
-      go Passed e = absurd (f.broken (passed_kept (table_of es ps) (passed_gives e) i f.there r))
-      go (Fault q k) e = e ∙ fault_one (table_of es ps) q r k i (fault_is e) f
+      go : (c : Result ⊤ TableError) → check_table es ps ≡ c → check_table es ps ≡ Err (fault.Fault r i)
+      go (Err fault.BadShape) e = absurd (all_checked (table_of es ps) (Err fault.BadShape) (sym (shape_good good) ∙ e))
+      go (Ok _) e = absurd (f.broken (passed_kept (table_of es ps) (passed_gives e) i f.there r))
+      go (Err (fault.Fault q k)) e = e ∙ fault_one (table_of es ps) q r k i (fault_is e) f

@@ -8,10 +8,9 @@ use native.Mathlib.Numerals.{add-one}
 use lib.ListN.{length, get_or, drop, drop_of_length-le}
 use lib.Seq.{drop-cons}
 use Rattle.table.specs.Table.{same_bound, same_part, same_path}
-use Rattle.table.specs.declared.types.Bound.{Bound}
-use Rattle.table.specs.declared.types.Bound.TheVariants.{NotGiven, Given}
 use Rattle.table.specs.declared.types.PathPart.TheVariants.{Id, Global}
 use Rattle.table.specs.declared.types.PathPart.{PathPart}
+use Rattle.std.specs.Prelude.{None, Option, Some}
 
 pub same_lengths : (a b : List PathPart) → (length a ≡ length b → ⊥) → same_path a b ≡ false
 unfolding same_path
@@ -35,12 +34,12 @@ same_end a b i ha hb = rw (drop_of_length-le a ha, drop_of_length-le b hb)
 
 -- ---- equal as the comparison says, and the other way
 
-bound_same : (a b : Bound) → same_bound a b ≡ true → a ≡ b
+bound_same : (a b : Option ℕ) → same_bound a b ≡ true → a ≡ b
 unfolding same_bound
-bound_same NotGiven NotGiven e = refl
-bound_same NotGiven (Given n) e = absurd (false≢true e)
-bound_same (Given m) NotGiven e = absurd (false≢true e)
-bound_same (Given m) (Given n) e = ap Given (eqb-true m n e)
+bound_same None None e = refl
+bound_same None (Some n) e = absurd (false≢true e)
+bound_same (Some m) None e = absurd (false≢true e)
+bound_same (Some m) (Some n) e = ap Some (eqb-true m n e)
 
 part_same : (p q : PathPart) → same_part p q ≡ true → p ≡ q
 unfolding same_part
@@ -60,10 +59,10 @@ path_same (p ∷ a) (q ∷ b) e =
     let both = (and-eq-true_iff (same_part p q) (same_path a b)).0 e in
     ap₂ (λ (x : PathPart) (l : List PathPart). x ∷ l) (part_same p q both.0) (path_same a b both.1)
 
-bound_self : (a : Bound) → same_bound a a ≡ true
+bound_self : (a : Option ℕ) → same_bound a a ≡ true
 unfolding same_bound
-bound_self NotGiven = refl
-bound_self (Given n) = eq-eqb n n refl
+bound_self None = refl
+bound_self (Some n) = eq-eqb n n refl
 
 part_self : (p : PathPart) → same_part p p ≡ true
 unfolding same_part

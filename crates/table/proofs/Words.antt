@@ -48,3 +48,6 @@ fours_at f (a ∷ b ∷ c ∷ d ∷ ws) (suc i) z h =
     let e₂ : 4 * suc i + 2 ≡ suc (suc (suc (suc (4 * i + 2)))) = omega arith in
     let e₃ : 4 * suc i + 3 ≡ suc (suc (suc (suc (4 * i + 3)))) = omega arith in
     rw (e₁, e₂, e₃, e) (fours_at f ws i z (omega arith))
+
+-- how many there are
+pub ruleset word_lengths = (length-threes, length-fours)

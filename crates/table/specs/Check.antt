@@ -1,6 +1,6 @@
 -- The table check: document 01, "The lent table": "10 for a bad shape; else it passes the table, or names the lowest
 -- faulty entry and its first broken rule".
-use Rattle.std.specs.Prelude.{ℕ, zero, suc, ◌+◌, Bool, true, false, cond, not, ◌&&◌, List, [], ◌∷◌, ◌++◌, eqb, length, take, get_or}
+use Rattle.std.specs.Prelude.{ℕ, zero, suc, ◌+◌, Bool, true, false, cond, not, ◌&&◌, List, [], ◌∷◌, ◌++◌, eqb, length, take, get_or, Err, Ok, Result, ⊤}
 use Rattle.tools.specs.ElementId.{is_element_id}
 use Rattle.basics.specs.Lists.{every, any}
 use Rattle.table.specs.Shape.{good_shape}
@@ -10,10 +10,8 @@ use Rattle.table.specs.declared.types.PathPart.{PathPart}
 use Rattle.table.specs.declared.types.PathPart.TheVariants.{Id, Global}
 use Rattle.table.specs.declared.types.Rule.{Rule}
 use Rattle.table.specs.declared.types.Rule.TheVariants.{NoElementId, Repeated, GlobalInMaster, NoMaster, OtherPath}
-use Rattle.table.specs.declared.types.Judged.{Judged}
-use Rattle.table.specs.declared.types.Judged.TheVariants.{Sound, Breaks}
-use Rattle.table.specs.declared.types.Checked.{Checked}
-use Rattle.table.specs.declared.types.Checked.TheVariants.{BadShape, Passed, Fault}
+use Rattle.table.specs.declared.types.TableError.{TableError}
+use Rattle.table.specs.declared.types.TableError.TheVariants as fault
 
 -- ---- numbers
 
@@ -26,10 +24,10 @@ rule_number NoMaster = 34
 rule_number OtherPath = 35
 
 -- "answers 10 for a bad shape"; 0 for a table that passed
-abbrev pub checked_number : Checked → ℕ
-checked_number BadShape = 10
-checked_number Passed = 0
-checked_number (Fault rule entry) = rule_number rule
+abbrev pub checked_number : Result ⊤ TableError → ℕ
+checked_number (Err fault.BadShape) = 10
+checked_number (Ok _) = 0
+checked_number (Err (fault.Fault rule entry)) = rule_number rule
 
 -- ---- the rules
 
@@ -85,24 +83,24 @@ abbrev pub rules : List Rule
 rules = NoElementId ∷ Repeated ∷ GlobalInMaster ∷ NoMaster ∷ OtherPath ∷ []
 
 -- "its first broken rule"
-unfoldable pub first_broken : (Rule → Bool) → List Rule → Judged
-first_broken kept [] = Sound
-first_broken kept (r ∷ rs) = cond (kept r) (first_broken kept rs) (Breaks r)
+unfoldable pub first_broken : (Rule → Bool) → List Rule → Result ⊤ Rule
+first_broken kept [] = Ok tt
+first_broken kept (r ∷ rs) = cond (kept r) (first_broken kept rs) (Err r)
 
 -- what the rules say of entry i
-abbrev pub judged : List Entry → ℕ → Judged
+abbrev pub judged : List Entry → ℕ → Result ⊤ Rule
 judged t i = first_broken (keeps t i (get_or t i unlisted)) rules
 
 -- a fault ends the check with its entry, counted from 0
-unfoldable pub fault_or : Judged → ℕ → Checked → Checked
-fault_or Sound i rest = rest
-fault_or (Breaks r) i rest = Fault r i
+unfoldable pub fault_or : Result ⊤ Rule → ℕ → Result ⊤ TableError → Result ⊤ TableError
+fault_or (Ok _) i rest = rest
+fault_or (Err r) i rest = Err (fault.Fault r i)
 
 -- "the lowest faulty entry": of the n entries from i on
-unfoldable pub check_from : List Entry → ℕ → ℕ → Checked
-check_from t zero i = Passed
+unfoldable pub check_from : List Entry → ℕ → ℕ → Result ⊤ TableError
+check_from t zero i = Ok tt
 check_from t (suc n) i = fault_or (judged t i) i (check_from t n (i + 1))
 
 -- "answers 10 for a bad shape; else it passes the table, or names the lowest faulty entry and its first broken rule"
-unfoldable pub check_table : List ℕ → List ℕ → Checked
-check_table es ps = cond (good_shape es ps) (check_from (table_of es ps) (length (table_of es ps)) 0) BadShape
+unfoldable pub check_table : List ℕ → List ℕ → Result ⊤ TableError
+check_table es ps = cond (good_shape es ps) (check_from (table_of es ps) (length (table_of es ps)) 0) (Err fault.BadShape)

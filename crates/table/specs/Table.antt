@@ -1,10 +1,8 @@
 -- The lent table: document 01, "The lent table": two lists of 64-bit words, read as entries and as path parts. Any
 -- words are read: a table of bad shape has entries and parts too.
-use Rattle.std.specs.Prelude.{ℕ, ◌-◌, ◌*◌, ◌≤◌, ◌<◌, min, Bool, true, false, cond, ◌&&◌, List, [], ◌∷◌, ◌≡◌, eqb, length, get_or, take, drop}
+use Rattle.std.specs.Prelude.{ℕ, ◌-◌, ◌*◌, ◌≤◌, ◌<◌, min, Bool, true, false, cond, ◌&&◌, List, [], ◌∷◌, ◌≡◌, eqb, length, get_or, take, drop, None, Option, Some}
 use Rattle.table.specs.declared.types.TagDataType.{TagDataType}
 use Rattle.table.specs.declared.types.TagDataType.TheVariants.{Untyped, Master, UnsignedInt, Integer, Utf8, Binary, Float}
-use Rattle.table.specs.declared.types.Bound.{Bound}
-use Rattle.table.specs.declared.types.Bound.TheVariants.{NotGiven, Given}
 use Rattle.table.specs.declared.types.PathPart.{PathPart}
 use Rattle.table.specs.declared.types.PathPart.TheVariants.{Id, Global}
 use Rattle.table.specs.declared.types.Path.{Path}
@@ -30,8 +28,8 @@ fours f (a ∷ b ∷ c ∷ d ∷ ws) = f a b c d ∷ fours f ws
 -- ---- parts
 
 -- "0 means not given and n+1 means n"
-unfoldable pub bound_of : ℕ → Bound
-bound_of word = cond (eqb word 0) NotGiven (Given (word - 1))
+unfoldable pub bound_of : ℕ → Option ℕ
+bound_of word = cond (eqb word 0) None (Some (word - 1))
 
 -- "(0, ID, 0), or (1, min, max) for a Global"
 unfoldable pub part_of : ℕ → ℕ → ℕ → PathPart
@@ -52,11 +50,11 @@ path_ids (Id x ∷ path) = x ∷ path_ids path
 path_ids (Global least most ∷ path) = path_ids path
 
 -- two bounds are equal as values
-unfoldable pub same_bound : Bound → Bound → Bool
-same_bound NotGiven NotGiven = true
-same_bound NotGiven (Given n) = false
-same_bound (Given m) NotGiven = false
-same_bound (Given m) (Given n) = eqb m n
+unfoldable pub same_bound : Option ℕ → Option ℕ → Bool
+same_bound None None = true
+same_bound None (Some n) = false
+same_bound (Some m) None = false
+same_bound (Some m) (Some n) = eqb m n
 
 -- two parts are equal as values
 unfoldable pub same_part : PathPart → PathPart → Bool

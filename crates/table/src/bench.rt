@@ -1,9 +1,9 @@
-// The bench table as the words that are lent to the decoder.
+//! The bench table as the words that are lent to the decoder.
 
 ghost use Rattle.std.specs.Prelude.{◌≡◌};
 ghost use Rattle.table.specs.BenchTable.{bench_entries, bench_parts};
 
-// The entries' words: ID, type, first part, number of parts.
+/// The entries' words: ID, type, first part, number of parts.
 pub fn entries() -> [u64; 32]
     ensures { result ≡ bench_entries }
 {
@@ -27,7 +27,7 @@ pub fn entries() -> [u64; 32]
     ]
 }
 
-// The parts' words: Session, Feed, and a Global with neither bound.
+/// The parts' words: Session, Feed, and a Global with neither bound.
 pub fn parts() -> [u64; 9]
     ensures { result ≡ bench_parts }
 {

@@ -1,5 +1,5 @@
-// What the table says of an ID: `get_tag_data_type` and `get_path_by_id` of the Rust's TSpec. The first entry with an
-// ID counts.
+//! What the table says of an ID: `get_tag_data_type` and `get_path_by_id` of the Rust's TSpec. The first entry with an
+//! ID counts.
 
 ghost use Rattle.std.specs.Prelude.{◌≡◌};
 ghost use Rattle.table.specs.Table.{is_master, is_typed, table_of, spec_for, data_type_of, range_of};
@@ -7,7 +7,8 @@ ghost use Rattle.table.specs.Table.{is_master, is_typed, table_of, spec_for, dat
 use crate::entry::{first_with, spec_at};
 use crate::types::{Path, Spec, TagDataType};
 
-// Type and path of an ID at once.
+/// Type and path of an ID at once.
+#[tactic(auto, using(crate::proofs::Entries::for_first))]
 pub fn look_up(entries: &[u64], parts: &[u64], id: u64) -> Spec
     ensures { result ≡ spec_for (table_of entries.now parts.now) id }
 {
@@ -15,40 +16,32 @@ pub fn look_up(entries: &[u64], parts: &[u64], id: u64) -> Spec
     spec_at(entries, parts, first)
 }
 
-// The type of an ID.
+/// The type of an ID.
 pub fn get_tag_data_type(entries: &[u64], parts: &[u64], id: u64) -> TagDataType
     ensures { result ≡ data_type_of (table_of entries.now parts.now) id }
 {
-    let spec = look_up(entries, parts, id);
-    spec.kind
+    look_up(entries, parts, id).kind
 }
 
-// The range of the path's parts: what stands in it is the path.
+/// The range of the path's parts: what stands in it is the path.
 pub fn get_path_by_id(entries: &[u64], parts: &[u64], id: u64) -> Path
     ensures { result ≡ range_of (table_of entries.now parts.now) id }
 {
-    let found = look_up(entries, parts, id);
-    found.path
+    look_up(entries, parts, id).path
 }
 
-// Whether a type is Master.
+/// Whether a type is Master.
+#[tactic(auto, unfolding(crate::specs::Table::is_master))]
 pub fn is_master(kind: TagDataType) -> bool
     ensures { result ≡ is_master kind }
 {
-    if let TagDataType::Master = kind {
-        true
-    } else {
-        false
-    }
+    matches!(kind, TagDataType::Master)
 }
 
-// Whether there is a type.
+/// Whether there is a type.
+#[tactic(auto, unfolding(crate::specs::Table::is_typed))]
 pub fn is_typed(kind: TagDataType) -> bool
     ensures { result ≡ is_typed kind }
 {
-    if let TagDataType::Untyped = kind {
-        false
-    } else {
-        true
-    }
+    !matches!(kind, TagDataType::Untyped)
 }

@@ -1,4 +1,4 @@
-// The shape of a lent table (refusal 10).
+//! The shape of a lent table (refusal 10).
 
 ghost use Rattle.std.specs.Prelude.{◌≡◌, ◌+◌, ◌*◌, ◌/◌, ◌<◌, length, get_or};
 ghost use Rattle.table.specs.Shape.{good_part, good_parts, good_entry, good_entries, good_shape};
@@ -13,19 +13,15 @@ const MOST_PARTS: u64 = 16;
 const MOST_BOUND: u64 = 65_536;
 
 // Whether the three words of a part are good.
+#[tactic(auto, unfolding(crate::specs::Shape::good_part))]
 fn good_part(sort: u64, low: u64, high: u64) -> bool
     ensures { result ≡ good_part sort low high }
 {
     if sort == 0 {
-        return high == 0;
+        high == 0
+    } else {
+        sort == 1 && low <= MOST_BOUND && high <= MOST_BOUND
     }
-    if sort != 1 {
-        return false;
-    }
-    if MOST_BOUND < low {
-        return false;
-    }
-    high <= MOST_BOUND
 }
 
 // Whether part i is good.
@@ -37,41 +33,24 @@ fn good_part_at(parts: &[u64], i: usize) -> bool
 }
 
 // Whether each part is good.
+#[tactic(auto, using(basics::proofs::Loops::every_end, crate::proofs::Words::word_lengths), unfolding(crate::specs::Shape::good_parts))]
 fn good_parts(parts: &[u64]) -> bool
     ensures { result ≡ good_parts parts.now }
 {
-    let count = parts.len() / 3;
-    let mut i: usize = 0;
-    while i < count {
+    for i in 0..parts.len() / 3 {
         if !good_part_at(parts, i) {
             return false;
         }
-        i += 1;
     }
     true
 }
 
-// A length as a word.
-fn wide(n: usize) -> u64
-    ensures { result ≡ n }
-{
-    n as u64
-}
-
 // Whether the words of an entry are good, where there are so many parts.
+#[tactic(auto, unfolding(crate::specs::Shape::good_entry))]
 fn good_entry(all: u64, kind: u64, first: u64, count: u64) -> bool
     ensures { result ≡ good_entry all kind first count }
 {
-    if 5 < kind {
-        return false;
-    }
-    if MOST_PARTS < count {
-        return false;
-    }
-    if all < count {
-        return false;
-    }
-    first <= all - count
+    kind <= 5 && count <= MOST_PARTS && count <= all && first <= all - count
 }
 
 // Whether entry i is good.
@@ -88,35 +67,26 @@ fn good_entry_at(entries: &[u64], all: u64, i: usize) -> bool
 }
 
 // Whether each entry is good.
+#[tactic(auto, using(basics::proofs::Loops::every_end, crate::proofs::Words::word_lengths), unfolding(crate::specs::Shape::good_entries))]
 fn good_entries(entries: &[u64], all: u64) -> bool
     ensures { result ≡ good_entries all entries.now }
 {
-    let count = entries.len() / 4;
-    let mut i: usize = 0;
-    while i < count {
+    for i in 0..entries.len() / 4 {
         if !good_entry_at(entries, all, i) {
             return false;
         }
-        i += 1;
     }
     true
 }
 
-// Whether a table has the shape that document 01 asks for.
+/// Whether a table's shape is good: whole entries and parts, at most 64 entries, and each part and each entry good.
+#[tactic(auto, unfolding(crate::specs::Shape::good_shape))]
 pub fn good_shape(entries: &[u64], parts: &[u64]) -> bool
     ensures { result ≡ good_shape entries.now parts.now }
 {
-    if 0 < entries.len() % 4 {
-        return false;
-    }
-    if 0 < parts.len() % 3 {
-        return false;
-    }
-    if MOST_ENTRIES < entries.len() / 4 {
-        return false;
-    }
-    if good_parts(parts) {
-        return good_entries(entries, wide(parts.len() / 3));
-    }
-    false
+    entries.len() % 4 == 0
+        && parts.len() % 3 == 0
+        && entries.len() / 4 <= MOST_ENTRIES
+        && good_parts(parts)
+        && good_entries(entries, (parts.len() / 3) as u64)
 }

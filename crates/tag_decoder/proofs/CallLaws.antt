@@ -18,8 +18,6 @@ use Rattle.decoder_rules.specs.Recovery.{end_of_search, ending_at, ending, searc
 use Rattle.decoder_rules.specs.declared.types.Action.{Action}
 use Rattle.decoder_rules.specs.declared.types.Action.TheVariants as act
 use Rattle.decoder_rules.specs.declared.types.Answer.TheVariants as answer
-use Rattle.decoder_rules.specs.declared.types.Check.{Check}
-use Rattle.decoder_rules.specs.declared.types.Check.TheVariants.{Pass, Fail}
 use Rattle.decoder_rules.specs.declared.types.Decoded.{Decoded}
 use Rattle.decoder_rules.specs.declared.types.Event.TheVariants.{End}
 use Rattle.decoder_rules.specs.declared.types.Place.{Place}
@@ -27,7 +25,6 @@ use Rattle.decoder_rules.specs.declared.types.Place.TheVariants.{Stop, Found, On
 use Rattle.decoder_rules.specs.declared.types.PlaceResult.{PlaceResult}
 use Rattle.decoder_rules.specs.declared.types.Recovered.{Recovered}
 use Rattle.decoder_rules.specs.declared.types.Refusal.{Refusal}
-use Rattle.decoder_rules.specs.declared.types.Search.TheVariants as search
 use Rattle.decoder_rules.specs.declared.types.TagDecoder.{TagDecoder}
 use Rattle.decoder_rules.specs.declared.types.WaitingEnd.{WaitingEnd}
 use Rattle.decoder_rules.proofs.GoodState.{passed12}
@@ -37,18 +34,20 @@ use Rattle.decoder_rules.proofs.EndExits.{EndExit, end_keeps, EofExit, eof_exits
 use Rattle.decoder_move.specs.Applies.{ActionApplies}
 use Rattle.decoder_move.proofs.DecisionApplies.{decide_applies}
 use Rattle.tag_decoder.proofs.Recovering.{EndWell, end_well}
+use Rattle.std.specs.Prelude.{Err, Ok, Result, ⊤}
+use Rattle.decoder_rules.specs.declared.types.DecodeError.{DecodeError}
 
 -- ---- one call
 
-taken_within : (d : TagDecoder) (n : ℕ) (a : Action) → ActionApplies d n a → (move d a).taken ≤ n
+taken_within : (d : TagDecoder) (n : ℕ) (a : Result Action DecodeError) → ActionApplies d n a → (move d a).taken ≤ n
 unfolding ActionApplies move
-taken_within d n (act.Refuse e) f = omega arith
-taken_within d n (act.NeedMore missing) f = omega arith
-taken_within d n act.Finish f = omega arith
-taken_within d n act.HandOut f = omega arith
-taken_within d n (act.Close k) f = omega arith
-taken_within d n (act.Start x z len) f = f.1
-taken_within d n (act.Data x v m) f = f.0
+taken_within d n (Err e) f = omega arith
+taken_within d n (Ok (act.NeedMore missing)) f = omega arith
+taken_within d n (Ok act.Finish) f = omega arith
+taken_within d n (Ok act.HandOut) f = omega arith
+taken_within d n (Ok (act.Close k)) f = omega arith
+taken_within d n (Ok (act.Start x z len)) f = f.1
+taken_within d n (Ok (act.Data x v m)) f = f.0
 
 module _ (es ps : List ℕ) (d : TagDecoder) (s : List ℕ) where
   -- no more is taken than was lent
@@ -61,12 +60,12 @@ module _ (es ps : List ℕ) (d : TagDecoder) (s : List ℕ) where
   moves_on = decode_position es ps d s
 
   -- a refusal takes nothing and changes at most the settling note
-  pub refusal_changes_nothing : {r : Refusal} → (decode es ps d s).answer ≡ answer.Refused r
+  pub refusal_changes_nothing : {r : Refusal} → (decode es ps d s).answer ≡ Err r
       → ((decode es ps d s).taken ≡ 0) × ((decode es ps d s).state ≡ with_note es ps d s)
   refusal_changes_nothing q = let k = decode_stays es ps d s (ap is_no_event q) in (k.none, k.same)
 
   -- an End takes nothing
-  pub end_takes_nothing : {end : WaitingEnd} → (decode es ps d s).answer ≡ answer.Event (End end) → (decode es ps d s).taken ≡ 0
+  pub end_takes_nothing : {end : WaitingEnd} → (decode es ps d s).answer ≡ Ok (answer.Event (End end)) → (decode es ps d s).taken ≡ 0
   unfolding apply
   end_takes_nothing q = end_takes_none (with_note es ps d s) (decide es ps d s).action q
 
@@ -76,11 +75,11 @@ module _ (es ps : List ℕ) (d : TagDecoder) (s : List ℕ) where
 pub record CallFacts (d e : TagDecoder) (n : ℕ) (r : Decoded) : Type 0 where
   pub within : r.taken ≤ n
   pub moves : r.state.position ≡ d.position + r.taken
-  pub refusal : {x : Refusal} → r.answer ≡ answer.Refused x → (r.taken ≡ 0) × (r.state ≡ e)
-  pub end : {end : WaitingEnd} → r.answer ≡ answer.Event (End end) → r.taken ≡ 0
+  pub refusal : {x : Refusal} → r.answer ≡ Err x → (r.taken ≡ 0) × (r.state ≡ e)
+  pub end : {end : WaitingEnd} → r.answer ≡ Ok (answer.Event (End end)) → r.taken ≡ 0
 
 -- a refusal of the end of input changes nothing
-end_refusal : {t : List Entry} {d : TagDecoder} {s : List ℕ} {r : Decoded} → EndExit t d s r → {x : Refusal} → r.answer ≡ answer.Refused x → r.state ≡ d
+end_refusal : {t : List Entry} {d : TagDecoder} {s : List ℕ} {r : Decoded} → EndExit t d s r → {x : Refusal} → r.answer ≡ Err x → r.state ≡ d
 unfolding move
 end_refusal (at.bytes_left l) q = refl
 end_refusal (at.master_cut n l) q = refl
@@ -130,11 +129,11 @@ ending_moved d n p w = by p.place
     by Found = record { within = omega (arith, w.within); moves = omega (arith, w.later) }
     by On = record { within = omega (arith, w.within); moves = omega (arith, w.later) }
 
-ending_answers : (start : ℕ) (p : PlaceResult) {r : Refusal} {A : Type 0} → (ending start p).answer ≡ search.Refused r → A
+ending_answers : (start : ℕ) (p : PlaceResult) {r : Refusal} {A : Type 0} → (ending start p).answer ≡ Err r → A
 unfolding ending
 ending_answers start p {r = r} {A = A} e = by p.place e
   where
-    by : (q : Place) → (ending_at start q p.state).answer ≡ search.Refused r → A
+    by : (q : Place) → (ending_at start q p.state).answer ≡ Err r → A
     by Stop f = let z : ◌≡◌ {A = ℕ} 0 1 = cc in absurd_eq z
     by Found f = let z : ◌≡◌ {A = ℕ} 0 1 = cc in absurd_eq z
     by On f = let z : ◌≡◌ {A = ℕ} 0 1 = cc in absurd_eq z
@@ -145,17 +144,17 @@ module _ (es ps : List ℕ) (d : TagDecoder) (s : List ℕ) where
   unfolding try_recover
   recovery_moves = go (check_record10to12 es ps d (length s)) refl
     where
-      go : (c : Check) → check_record10to12 es ps d (length s) ≡ c → Moved d (length s) (search_or ps (table_of es ps) d s c)
-      go Pass e =
+      go : (c : Result ⊤ DecodeError) → check_record10to12 es ps d (length s) ≡ c → Moved d (length s) (search_or ps (table_of es ps) d s c)
+      go (Ok _) e =
           let p = passed12 es ps d (length s) e in
           ending_moved d (length s) _ (end_well es ps p.shape d s p.good p.near)
-      go (Fail x) e = record { within = omega arith; moves = omega arith }
+      go (Err x) e = record { within = omega arith; moves = omega arith }
 
   -- and a refusal of it changes nothing at all
-  pub refused_recovery_changes_nothing : {r : Refusal} → (try_recover es ps d s).answer ≡ search.Refused r → ((try_recover es ps d s).taken ≡ 0) × ((try_recover es ps d s).state ≡ d)
+  pub refused_recovery_changes_nothing : {r : Refusal} → (try_recover es ps d s).answer ≡ Err r → ((try_recover es ps d s).taken ≡ 0) × ((try_recover es ps d s).state ≡ d)
   unfolding try_recover
   refused_recovery_changes_nothing {r = r} e = go (check_record10to12 es ps d (length s)) e
     where
-      go : (c : Check) → (search_or ps (table_of es ps) d s c).answer ≡ search.Refused r → ((search_or ps (table_of es ps) d s c).taken ≡ 0) × ((search_or ps (table_of es ps) d s c).state ≡ d)
-      go Pass f = ending_answers d.position (end_of_search ps (table_of es ps) d s) f
-      go (Fail x) f = (refl, refl)
+      go : (c : Result ⊤ DecodeError) → (search_or ps (table_of es ps) d s c).answer ≡ Err r → ((search_or ps (table_of es ps) d s c).taken ≡ 0) × ((search_or ps (table_of es ps) d s c).state ≡ d)
+      go (Ok _) f = ending_answers d.position (end_of_search ps (table_of es ps) d s) f
+      go (Err x) f = (refl, refl)

@@ -11,18 +11,12 @@ use lib.Seq.{drop-drop}
 use Rattle.table.specs.Shape.{good_shape}
 use Rattle.table.specs.Table.{Entry, table_of, parts_of, parts_in}
 use Rattle.tag_parse.specs.Header.{read_header}
-use Rattle.tag_parse.specs.declared.types.ReadHeader.{ReadHeader}
-use Rattle.tag_parse.specs.declared.types.ReadHeader.TheVariants as header
 use Rattle.tag_parse.specs.declared.types.TagHeader.{TagHeader}
 use Rattle.decoder_rules.specs.Record.{farthest, with_notes, at_position}
 use Rattle.decoder_rules.specs.OneCall.{step6, settles, step7, noted, valid_header}
 use Rattle.decoder_rules.specs.Recovery.{forward, at, step_on, judged, judged_at, header_at, read_at, place_at, end_of_search}
 use Rattle.decoder_rules.specs.FirstPlace.{note_before, record_on, first_place}
-use Rattle.decoder_rules.specs.declared.types.Check.{Check}
-use Rattle.decoder_rules.specs.declared.types.Check.TheVariants.{Pass, Fail}
 use Rattle.decoder_rules.specs.declared.types.DecodeError.{DecodeError}
-use Rattle.decoder_rules.specs.declared.types.Note.{Note}
-use Rattle.decoder_rules.specs.declared.types.Note.TheVariants.{NoNote, Settle}
 use Rattle.decoder_rules.specs.declared.types.Place.TheVariants.{Stop, Found, On}
 use Rattle.decoder_rules.specs.declared.types.PlaceResult.{PlaceResult}
 use Rattle.decoder_rules.specs.declared.types.Settings.{Settings}
@@ -36,20 +30,25 @@ use Rattle.basics.proofs.Bools.{pick, cond_yes, cond_no}
 use Rattle.decoder_move.specs.Applies.{NoteApplies}
 use Rattle.decoder_move.proofs.DecisionApplies.{note_none, note_settle, note_settles}
 use Rattle.tag_decoder.specs.Passing.{may_end, PassedTo, NextPlace}
+use Rattle.std.specs.Prelude.{Err, None, Ok, Option, Result, Some, ⊤}
+use Rattle.tag_parse.specs.declared.types.ParseError.{ParseError}
+use Rattle.table.specs.declared.types.Path.{Path}
+use Rattle.tools.specs.declared.status.Status.{Status}
+use Rattle.tools.specs.declared.status.Status.TheVariants as status
 
 -- ---- the note
 
 -- the note of a header that was read applies
-pub step7_applies : (es ps : List ℕ) → good_shape es ps ≡ true → (d : TagDecoder) (s : List ℕ) (h : TagHeader) → read_header (table_of es ps) s ≡ header.Header h
+pub step7_applies : (es ps : List ℕ) → good_shape es ps ≡ true → (d : TagDecoder) (s : List ℕ) (h : TagHeader) → read_header (table_of es ps) s ≡ Ok (status.Complete h)
     → NoteApplies ps (step7 (table_of es ps) d h)
 step7_applies es ps shape d s h e =
-    pick (NoteApplies ps) (settles (table_of es ps) d h) (Settle h.path) NoNote (λ f. note_settle ps h.path (omega (arith, path_few es ps s h e shape))) (λ f. note_none ps)
+    pick (NoteApplies ps) (settles (table_of es ps) d h) (Some h.path) None (λ f. note_settle ps h.path (omega (arith, path_few es ps s h e shape))) (λ f. note_none ps)
 
 -- a note that applies leaves a good record
-pub noted_good : (ps : List ℕ) (d : TagDecoder) (n : Note) → GoodState d → NoteApplies ps n → GoodState (noted ps d n)
+pub noted_good : (ps : List ℕ) (d : TagDecoder) (n : Option Path) → GoodState d → NoteApplies ps n → GoodState (noted ps d n)
 unfolding noted
-noted_good ps d NoNote g f = g
-noted_good ps d (Settle path) g f = settled_good d g (parts_in (parts_of ps) path) (note_settles ps path f)
+noted_good ps d None g f = g
+noted_good ps d (Some path) g f = settled_good d g (parts_in (parts_of ps) path) (note_settles ps path f)
 
 -- ---- the search
 
@@ -95,10 +94,10 @@ module _ (ps : List ℕ) (t : List Entry) where
   unfolding place_at header_at
   skip_one d s h e = search_goes ps t d s (step_on d) h (sym (go (read_header t s) e)) refl
     where
-      go : (r : ReadHeader) → may_end d.settings.strict d.settings.allow_ids r ≡ false → read_at ps t d r ≡ step_on d
-      go (header.NeedMore missing) f = absurd (true≢false f)
-      go (header.Refused x) f = refl
-      go (header.Header x) f = cond_no (step6 d x) _ _ f
+      go : (r : Result (Status TagHeader) ParseError) → may_end d.settings.strict d.settings.allow_ids r ≡ false → read_at ps t d r ≡ step_on d
+      go (Ok (status.NeedMore missing)) f = absurd (true≢false f)
+      go (Err x) f = refl
+      go (Ok (status.Complete x)) f = cond_no (step6 d x) _ _ f
 
   -- and k of them
   skip : (k : ℕ) (d : TagDecoder) (s : List ℕ) → k ≤ length s → ((j : ℕ) → j < k → may_end d.settings.strict d.settings.allow_ids (read_header t (drop j s)) ≡ false)
@@ -146,19 +145,25 @@ searched_first ps t d s i g k = record {
 -- ---- at place i, with the record moved there
 
 -- no header was read
-abbrev pub NoHeader : ReadHeader → Type 0
-NoHeader r = (h : TagHeader) → r ≡ header.Header h → ⊥
+abbrev pub NoHeader : Result (Status TagHeader) ParseError → Type 0
+NoHeader r = (h : TagHeader) → r ≡ Ok (status.Complete h) → ⊥
+
+pub part_is_none : {r : Result (Status TagHeader) ParseError} {m : ℕ} → r ≡ Ok (status.NeedMore m) → NoHeader r
+part_is_none e h q = let z : ◌≡◌ {A = ℕ} 0 1 = cc in absurd (omega (arith, z))
+
+pub refusal_is_none : {r : Result (Status TagHeader) ParseError} {e : ParseError} → r ≡ Err e → NoHeader r
+refusal_is_none p h q = let z : ◌≡◌ {A = ℕ} 0 1 = cc in absurd (omega (arith, z))
 
 module _ (ps : List ℕ) (t : List Entry) (d : TagDecoder) where
-  stops_at : (r : ReadHeader) → NoHeader r → may_end d.settings.strict d.settings.allow_ids r ≡ true → read_at ps t d r ≡ at Stop d
-  stops_at (header.NeedMore missing) k e = refl
-  stops_at (header.Refused x) k e = absurd (false≢true e)
-  stops_at (header.Header h) k e = absurd (k h refl)
+  stops_at : (r : Result (Status TagHeader) ParseError) → NoHeader r → may_end d.settings.strict d.settings.allow_ids r ≡ true → read_at ps t d r ≡ at Stop d
+  stops_at (Ok (status.NeedMore missing)) k e = refl
+  stops_at (Err x) k e = absurd (false≢true e)
+  stops_at (Ok (status.Complete h)) k e = absurd (k h refl)
 
-  judged_at_lem : (s : List ℕ) (h : TagHeader) (c : Check) → read_header t s ≡ header.Header h → step6 d h ≡ true → valid_header t (noted ps d (step7 t d h)) h ≡ c
+  judged_at_lem : (s : List ℕ) (h : TagHeader) (c : Result ⊤ DecodeError) → read_header t s ≡ Ok (status.Complete h) → step6 d h ≡ true → valid_header t (noted ps d (step7 t d h)) h ≡ c
       → place_at ps t d s ≡ judged c (noted ps d (step7 t d h))
   unfolding place_at header_at judged_at
-  judged_at_lem s h c e f v = ap (read_at ps t d) e ∙ cond_yes (step6 d h) _ _ f ∙ ap (λ (x : Check). judged x (noted ps d (step7 t d h))) v
+  judged_at_lem s h c e f v = ap (read_at ps t d) e ∙ cond_yes (step6 d h) _ _ f ∙ ap (λ (x : Result ⊤ DecodeError). judged x (noted ps d (step7 t d h))) v
 
 module _ (es ps : List ℕ) (shape : good_shape es ps ≡ true) (d : TagDecoder) (s : List ℕ) (near : d.position + length s ≤ farthest) (e : TagDecoder) (i : ℕ)
     (so_far : Searched ps (table_of es ps) d s e i) where
@@ -192,7 +197,7 @@ module _ (es ps : List ℕ) (shape : good_shape es ps ≡ true) (d : TagDecoder)
         ∙ sym so_far.same
 
     -- a header reads there
-    module _ (x : TagHeader) (read : read_header t (drop i s) ≡ header.Header x) where
+    module _ (x : TagHeader) (read : read_header t (drop i s) ≡ Ok (status.Complete x)) where
       -- the record with its note
       abbrev pub with_note_lem : TagDecoder
       with_note_lem = noted ps here (step7 t here x)
@@ -204,13 +209,13 @@ module _ (es ps : List ℕ) (shape : good_shape es ps ≡ true) (d : TagDecoder)
       allowed = sym (ap (may_end here.settings.strict here.settings.allow_ids) read) ∙ may_end_lem
 
       -- a valid one is found
-      pub searched_found : valid_header t with_note_lem x ≡ Pass → at Found with_note_lem ≡ end_of_search ps t d s
+      pub searched_found : valid_header t with_note_lem x ≡ Ok tt → at Found with_note_lem ≡ end_of_search ps t d s
       searched_found v =
-          search_finds ps t here (drop i s) (at Found with_note_lem) (omega (arith, length-drop i s)) (sym (judged_at_lem ps t here (drop i s) x Pass read allowed v)) refl
+          search_finds ps t here (drop i s) (at Found with_note_lem) (omega (arith, length-drop i s)) (sym (judged_at_lem ps t here (drop i s) x (Ok tt) read allowed v)) refl
           ∙ sym so_far.same
 
       -- else the search comes to the next place where it may end
-      pub searched_on : {y : DecodeError} → valid_header t with_note_lem x ≡ Fail y → (j : ℕ) → NextPlace t d.settings.strict d.settings.allow_ids s (i + 1) j → Searched ps t d s with_note_lem j
+      pub searched_on : {y : DecodeError} → valid_header t with_note_lem x ≡ Err y → (j : ℕ) → NextPlace t d.settings.strict d.settings.allow_ids s (i + 1) j → Searched ps t d s with_note_lem j
       unfolding with_notes
       searched_on {y} v j k =
           let p : with_note_lem.position ≡ d.position + i = noted-position ps here (step7 t here x) in
@@ -219,7 +224,7 @@ module _ (es ps : List ℕ) (shape : good_shape es ps ≡ true) (d : TagDecoder)
           record {
             same =
                 so_far.same
-                ∙ search_goes ps t here (drop i s) (step_on with_note_lem) (omega (arith, length-drop i s)) (sym (judged_at_lem ps t here (drop i s) x (Fail y) read allowed v)) refl
+                ∙ search_goes ps t here (drop i s) (step_on with_note_lem) (omega (arith, length-drop i s)) (sym (judged_at_lem ps t here (drop i s) x (Err y) read allowed v)) refl
                 ∙ ap (end_of_search ps t (forward with_note_lem)) (drop-drop 1 i s)
                 ∙ skip_to ps t (forward with_note_lem) s (i + 1) j (d.position + j) next (omega (arith, p, k.passed.onward));
             good = with_note_good;

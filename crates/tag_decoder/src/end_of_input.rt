@@ -1,4 +1,4 @@
-// The input has ended for good, and a call had no event: what is left is cut, or all close.
+//! The input has ended for good, and a call had no event: what is left is cut, or all close.
 
 ghost use Rattle.std.specs.Prelude.{◌≡◌, ◌+◌, ◌≤◌, length};
 ghost use Rattle.table.specs.Table.{table_of};
@@ -21,7 +21,7 @@ fn finish(d: TagDecoder) -> Decoded
     let count = d.open_count;
     let done = with_finished(d);
     if count == 0 {
-        return taking_none(Answer::Finished, done);
+        return taking_none(Ok(Answer::Finished), done);
     }
     close(done, 0)
 }
@@ -37,7 +37,7 @@ fn close_all(entries: &[u64], parts: &[u64], d: TagDecoder) -> Decoded
     refuse(DecodeError::NotAMaster, d.position, d)
 }
 
-// What the end of input answers.
+/// What the end of input answers.
 pub fn end_of_input(entries: &[u64], parts: &[u64], d: TagDecoder, input: &[u8]) -> Decoded
     requires { (d.open_count ≤ most_open) × (d.position + length input.now ≤ farthest) }
     ensures { result ≡ end_of_input (table_of entries.now parts.now) d input.now }

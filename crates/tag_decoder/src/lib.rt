@@ -1,5 +1,5 @@
-// The decoder: one call, the end of input, recovery and the settings. `TagDecoder` of tag_decoder.rs, whose record goes
-// in by value and comes back in the answer.
+//! The decoder: one call, the end of input, recovery and the settings. `TagDecoder` of tag_decoder.rs, whose record
+//! goes in by value and comes back in the answer.
 #![tactic(auto)]
 
 pub mod calls;

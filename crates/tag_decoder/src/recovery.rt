@@ -1,4 +1,4 @@
-// `try_recover`: the search for the next valid header.
+//! `try_recover`: the search for the next valid header.
 
 ghost use Rattle.std.specs.Prelude.{◌≡◌, true, ◌+◌, ◌≤◌, length};
 ghost use Rattle.table.specs.Shape.{good_shape};
@@ -12,20 +12,19 @@ use decoder_decide::decide::is_id_allowed;
 use decoder_decide::header::settling_note;
 use decoder_decide::whole::{check_record_10_to_12, valid_header_of};
 use decoder_move::moves::{settled_to, with_sizes_grown};
-use decoder_rules::types::{
-    Check, Note, Place, PlaceResult, Recovered, Refusal, Search, TagDecoder,
-};
+use decoder_rules::types::{Place, PlaceResult, Recovered, Refusal, Search, TagDecoder};
 use tag_parse::header::read_header;
-use tag_parse::types::ReadHeader;
+use tag_parse::types::{ParseError, TagHeader};
+use tools::status::Status;
 
 // Whether what was read as a header may end the search: where it is not whole, or passes step 6.
-fn may_end(strict: bool, allow_ids: bool, read: ReadHeader) -> bool
+fn may_end(strict: bool, allow_ids: bool, read: Result<Status<TagHeader>, ParseError>) -> bool
     ensures { result ≡ may_end strict allow_ids read }
 {
     match read {
-        ReadHeader::NeedMore { .. } => true,
-        ReadHeader::Refused(_) => false,
-        ReadHeader::Header(h) => is_id_allowed(strict, allow_ids, h),
+        Ok(Status::NeedMore { .. }) => true,
+        Err(_) => false,
+        Ok(Status::Complete(h)) => is_id_allowed(strict, allow_ids, h),
     }
 }
 
@@ -43,19 +42,19 @@ fn next_place(
     ensures { NextPlace (table_of entries.now parts.now) strict allow_ids input.now from result }
 {
     let n = input.len();
-    let mut i = from;
-    while i < n {
+    for i in from..n {
         let read = read_header(entries, parts, &input[i..]);
         if may_end(strict, allow_ids, read) {
             return i;
         }
-        i += 1;
     }
     n
 }
 
-// The place where the search ends. The record stays where it is: its position is set and its note made in place, and only
-// where a header may end the search.
+// The place where the search ends. The record stays where it is: its position is set and its note made in place, and
+// only where a header may end the search.
+// Two arms have one body, since of an or-pattern or a `let` with `else` the proof learns nothing; and a pattern asks for
+// `Ok`, not `is_ok`, since the laws of the search take what was answered.
 fn end_of_search(entries: &[u64], parts: &[u64], d: TagDecoder, input: &[u8]) -> PlaceResult
     requires { (good_state d ≡ true) × (good_shape entries.now parts.now ≡ true) × (d.position + length input.now ≤ farthest) }
     ensures { result ≡ end_of_search parts.now (table_of entries.now parts.now) d input.now }
@@ -66,18 +65,28 @@ fn end_of_search(entries: &[u64], parts: &[u64], d: TagDecoder, input: &[u8]) ->
     let allow_ids = d.settings.allow_ids;
     let mut e = d;
     let mut i = next_place(entries, parts, strict, allow_ids, input, 0);
+    // No `for`: `next_place` passes over as many places as it can.
     while i < n {
         e.position = start + i as u64;
-        let ReadHeader::Header(h) = read_header(entries, parts, &input[i..]) else {
-            return PlaceResult {
-                place: Place::Stop,
-                state: e,
-            };
+        let h = match read_header(entries, parts, &input[i..]) {
+            Ok(Status::Complete(h)) => h,
+            Ok(Status::NeedMore { .. }) => {
+                return PlaceResult {
+                    place: Place::Stop,
+                    state: e,
+                };
+            }
+            Err(_) => {
+                return PlaceResult {
+                    place: Place::Stop,
+                    state: e,
+                };
+            }
         };
-        if let Note::Settle(path) = settling_note(parts, e.settled, h) {
+        if let Some(path) = settling_note(parts, e.settled, h) {
             e = settled_to(e, parts, path);
         }
-        if let Check::Pass = valid_header_of(entries, parts, e, h) {
+        if let Ok(()) = valid_header_of(entries, parts, e, h) {
             return PlaceResult {
                 place: Place::Found,
                 state: e,
@@ -102,31 +111,31 @@ fn ending(start: u64, p: PlaceResult) -> Recovered
     let passed = end.position - start;
     if let Place::Found = place {
         return Recovered {
-            answer: Search::Found {
+            answer: Ok(Search::Found {
                 passed: passed as usize,
-            },
+            }),
             taken: passed as usize,
             state: with_sizes_grown(end, passed),
         };
     }
     Recovered {
-        answer: Search::NotFound {
+        answer: Ok(Search::NotFound {
             passed: passed as usize,
-        },
+        }),
         taken: passed as usize,
         state: end,
     }
 }
 
-// The next valid header is looked for, at this place and then byte by byte.
+/// The next valid header is looked for, at this place and then byte by byte.
 pub fn try_recover(entries: &[u64], parts: &[u64], d: TagDecoder, input: &[u8]) -> Recovered
     ensures { result ≡ try_recover entries.now parts.now d input.now }
 {
     let position = d.position;
     match check_record_10_to_12(entries, parts, d, input.len()) {
-        Check::Pass => ending(position, end_of_search(entries, parts, d, input)),
-        Check::Fail(error) => Recovered {
-            answer: Search::Refused(Refusal {
+        Ok(()) => ending(position, end_of_search(entries, parts, d, input)),
+        Err(error) => Recovered {
+            answer: Err(Refusal {
                 error,
                 place: position,
             }),

@@ -15,13 +15,12 @@ use Rattle.decoder_rules.specs.OneCall.{noted}
 use Rattle.decoder_rules.specs.Deciding.{decide}
 use Rattle.decoder_rules.specs.Moving.{needs_more, apply, decode}
 use Rattle.decoder_rules.specs.declared.types.Decision.{Decision}
-use Rattle.decoder_rules.specs.declared.types.Note.{Note}
-use Rattle.decoder_rules.specs.declared.types.Note.TheVariants.{NoNote, Settle}
 use Rattle.decoder_rules.specs.declared.types.TagDecoder.{TagDecoder}
 use Rattle.decoder_rules.proofs.AppendedDecision.{at_header_longer, decide_longer}
 use Rattle.decoder_rules.proofs.Exits.{exits, Settling, settling_exit}
 use Rattle.decoder_rules.proofs.MoveLaws.{decode_needs_more, decode_more_stays}
 use Rattle.tag_decoder_laws.proofs.Settling.{settling_decides, settled_once}
+use Rattle.std.specs.Prelude.{None, Option, Some}
 
 module _ (es ps : List ℕ) (d : TagDecoder) (s u : List ℕ) (byte : get_or s 0 0 < 256) (open_still : d.finished ≡ false) (near : d.position + length (s ++ u) ≤ farthest) where
   -- an answer that does not ask for more stays when bytes are appended: the event, the bytes taken and the record
@@ -36,7 +35,7 @@ octets_front (x ∷ s) u byte (suc i) = octets_front s u (λ j. byte (suc j)) i
 
 module _ (es ps : List ℕ) (d : TagDecoder) (s u : List ℕ) (byte : Octets (s ++ u)) (open_still : d.finished ≡ false) (near : d.position + length (s ++ u) ≤ farthest) where
   -- a note that is made on the first bytes is made on all
-  note_local : (path : Path) → (decide es ps d s).note ≡ Settle path → (decide es ps d (s ++ u)).note ≡ Settle path
+  note_local : (path : Path) → (decide es ps d s).note ≡ Some path → (decide es ps d (s ++ u)).note ≡ Some path
   note_local path q =
       let w = settling_exit es ps d s (exits es ps d s) q in
       let longer : Settling es ps d (s ++ u) path = record {
@@ -49,10 +48,10 @@ module _ (es ps : List ℕ) (d : TagDecoder) (s u : List ℕ) (byte : Octets (s 
       ap (λ (a : Decision). a.note) (settling_decides es ps d (s ++ u) path longer)
 
   -- the record with the note that a call makes answers a call on more bytes as the record without it
-  pub again : (n : Note) → (decide es ps d s).note ≡ n → decode es ps (noted ps d n) (s ++ u) ≡ decode es ps d (s ++ u)
+  pub again : (n : Option Path) → (decide es ps d s).note ≡ n → decode es ps (noted ps d n) (s ++ u) ≡ decode es ps d (s ++ u)
   unfolding noted
-  again NoNote q = refl
-  again (Settle path) q = settled_once es ps d (s ++ u) byte (Settle path) (note_local path q)
+  again None q = refl
+  again (Some path) q = settled_once es ps d (s ++ u) byte (Some path) (note_local path q)
 
   -- a call that asked for more has changed nothing for the next, whatever it is lent then
   pub need_more_changes_nothing : needs_more (decode es ps d s).answer ≡ true → decode es ps (decode es ps d s).state (s ++ u) ≡ decode es ps d (s ++ u)

@@ -12,13 +12,15 @@ use Rattle.decoder_rules.specs.declared.types.Decoded.{Decoded}
 use Rattle.decoder_rules.specs.declared.types.TagDecoder.{TagDecoder}
 use Rattle.decoder_rules.proofs.EndExits.{is_quiet, EofExit, as_decoded, at_end, eof_exits}
 use Rattle.tag_decoder_laws.proofs.Finishing.{never_finished}
+use Rattle.std.specs.Prelude.{Err, Ok, Result}
+use Rattle.decoder_rules.specs.declared.types.Refusal.{Refusal}
 
 -- an answer that does not ask for more, nor is Finished, is one after which the end of input is not looked at
-is_loud : (a : Answer) → needs_more a ≡ false → (a ≡ answer.Finished → ⊥) → is_quiet a ≡ false
-is_loud (answer.Event e) m f = refl
-is_loud (answer.NeedMore missing) m f = m
-is_loud answer.Finished m f = absurd (f refl)
-is_loud (answer.Refused r) m f = refl
+is_loud : (a : Result Answer Refusal) → needs_more a ≡ false → (a ≡ Ok answer.Finished → ⊥) → is_quiet a ≡ false
+is_loud (Ok (answer.Event e)) m f = refl
+is_loud (Ok (answer.NeedMore missing)) m f = m
+is_loud (Ok answer.Finished) m f = absurd (f refl)
+is_loud (Err r) m f = refl
 
 module _ (es ps : List ℕ) (d : TagDecoder) (s : List ℕ) where
   exit_as_decoded : {r : Decoded} → EofExit es ps d s r → is_quiet (decode es ps d s).answer ≡ false → r ≡ decode es ps d s

@@ -14,17 +14,19 @@ use Rattle.decoder_rules.specs.declared.types.TagDecoder.{TagDecoder}
 use Rattle.decoder_rules.proofs.EndExits.{is_quiet, EofExit, as_decoded, at_end, eof_exits, end_keeps}
 use Rattle.decoder_rules.proofs.Exits.{is_finish, exits, finish_exit}
 use Rattle.decoder_rules.proofs.MoveLaws.{with_note, finished_by, decode_finished}
+use Rattle.std.specs.Prelude.{Err, Ok, Result}
+use Rattle.decoder_rules.specs.declared.types.Refusal.{Refusal}
 
 -- an answer after which the end of input is not looked at does not ask for more
-loud_asks_no_more : (a : Answer) → is_quiet a ≡ false → needs_more a ≡ false
-loud_asks_no_more (answer.Event e) q = refl
-loud_asks_no_more (answer.NeedMore missing) q = absurd (true≢false q)
-loud_asks_no_more answer.Finished q = refl
-loud_asks_no_more (answer.Refused r) q = refl
+loud_asks_no_more : (a : Result Answer Refusal) → is_quiet a ≡ false → needs_more a ≡ false
+loud_asks_no_more (Ok (answer.Event e)) q = refl
+loud_asks_no_more (Ok (answer.NeedMore missing)) q = absurd (true≢false q)
+loud_asks_no_more (Ok answer.Finished) q = refl
+loud_asks_no_more (Err r) q = refl
 
 module _ (es ps : List ℕ) (d : TagDecoder) (s : List ℕ) where
   -- a call before the end of input does not answer Finished
-  pub never_finished : d.finished ≡ false → (decode es ps d s).answer ≡ answer.Finished → ⊥
+  pub never_finished : d.finished ≡ false → (decode es ps d s).answer ≡ Ok answer.Finished → ⊥
   unfolding apply
   never_finished f q =
       let a = ap is_finish (finished_by (with_note es ps d s) (decide es ps d s).action q) in

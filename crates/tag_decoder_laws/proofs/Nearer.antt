@@ -18,12 +18,9 @@ use Rattle.decoder_rules.specs.Moving.{needs_more, move, apply, decode}
 use Rattle.decoder_rules.specs.EndOfInput.{decode_eof}
 use Rattle.decoder_rules.specs.declared.types.Action.{Action}
 use Rattle.decoder_rules.specs.declared.types.Answer.TheVariants as answer
-use Rattle.decoder_rules.specs.declared.types.Check.TheVariants.{Pass}
 use Rattle.decoder_rules.specs.declared.types.Decision.{Decision}
 use Rattle.decoder_rules.specs.declared.types.Decoded.{Decoded}
 use Rattle.decoder_rules.specs.declared.types.Event.{Event}
-use Rattle.decoder_rules.specs.declared.types.Note.{Note}
-use Rattle.decoder_rules.specs.declared.types.Note.TheVariants.{NoNote, Settle}
 use Rattle.decoder_rules.specs.declared.types.TagDecoder.{TagDecoder}
 use Rattle.decoder_rules.proofs.EndExits as at
 use Rattle.decoder_rules.proofs.EndExits.{EndExit, EofExit, eof_exits}
@@ -33,6 +30,9 @@ use Rattle.decoder_rules.proofs.GoodState.{passed12}
 use Rattle.decoder_rules.proofs.MoveLaws.{is_no_event, with_note, noted_waiting_count, decode_more_stays}
 use Rattle.decoder_move.proofs.DecisionApplies.{decide_applies, note_settles}
 use Rattle.tag_decoder_laws.proofs.Settling.{settles_when}
+use Rattle.std.specs.Prelude.{None, Ok, Option, Result, Some}
+use Rattle.decoder_rules.specs.declared.types.DecodeError.{DecodeError}
+use Rattle.table.specs.declared.types.Path.{Path}
 
 -- ---- how far the end is
 
@@ -47,13 +47,13 @@ Nearer d n r = is_no_event r.answer ≡ false → 256 * (n - r.taken) + weight r
 -- ---- one call
 
 -- a closing where no End waits
-closing_nearer : {t : List Entry} {e : TagDecoder} {k : ℕ} {a : Action} (n : ℕ) → e.waiting_count ≡ 0 → k < e.open_count → Closing t e k a → Nearer e n (move e a)
+closing_nearer : {t : List Entry} {e : TagDecoder} {k : ℕ} {a : Result Action DecodeError} (n : ℕ) → e.waiting_count ≡ 0 → k < e.open_count → Closing t e k a → Nearer e n (move e a)
 unfolding move with_open with_waiting closed_to
 closing_nearer n w l (exit.closes c) q = omega arith
 closing_nearer n w l (exit.no_master_lem c) q = absurd (true≢false q)
 
 -- 8 to 11 on a header that was read
-header_nearer : {t : List Entry} {e : TagDecoder} {h : TagHeader} {s : List ℕ} {a : Action} → e.waiting_count ≡ 0 → 0 < h.len → h.len ≤ length s
+header_nearer : {t : List Entry} {e : TagDecoder} {h : TagHeader} {s : List ℕ} {a : Result Action DecodeError} → e.waiting_count ≡ 0 → 0 < h.len → h.len ≤ length s
     → HeaderExit t e h s a → Nearer e (length s) (move e a)
 unfolding move counted with_open with_notes opened
 header_nearer w some l (exit.misplaced p) q = absurd (true≢false q)
@@ -89,10 +89,10 @@ module _ (es ps : List ℕ) (d : TagDecoder) (s : List ℕ) (byte : Octets s) wh
 -- ---- the note makes no record heavier
 
 module _ (es ps : List ℕ) (d : TagDecoder) (s : List ℕ) (byte : Octets s) where
-  note_light : (n : Note) → (decide es ps d s).note ≡ n → weight (noted ps d n) ≤ weight d
+  note_light : (n : Option Path) → (decide es ps d s).note ≡ n → weight (noted ps d n) ≤ weight d
   unfolding noted settled_to with_open with_notes
-  note_light NoNote q = omega arith
-  note_light (Settle path) q =
+  note_light None q = omega arith
+  note_light (Some path) q =
       let w = settling_exit es ps d s (exits es ps d s) q in
       let short = note_settles ps path (rw q at (decide_applies es ps d s byte).note) in
       rw (settles_when (table_of es ps) d w.h w.settling).0 (omega arith)
@@ -123,12 +123,12 @@ module _ (es ps : List ℕ) (d : TagDecoder) (s : List ℕ) (byte : Octets s) wh
   eof_nearer {r} (at.at_end q x) = from_note r (end_nearer x)
 
 -- an event brings the end nearer
-pub event_nearer : (es ps : List ℕ) (d : TagDecoder) (s : List ℕ) → Octets s → {x : Event} → (decode es ps d s).answer ≡ answer.Event x
+pub event_nearer : (es ps : List ℕ) (d : TagDecoder) (s : List ℕ) → Octets s → {x : Event} → (decode es ps d s).answer ≡ Ok (answer.Event x)
     → 256 * (length s - (decode es ps d s).taken) + weight (decode es ps d s).state < 256 * length s + weight d
 event_nearer es ps d s byte q = decode_nearer es ps d s byte (ap is_no_event q)
 
 -- so does an event of the end of input
-pub eof_event_nearer : (es ps : List ℕ) (d : TagDecoder) (s : List ℕ) → Octets s → {x : Event} → (decode_eof es ps d s).answer ≡ answer.Event x
+pub eof_event_nearer : (es ps : List ℕ) (d : TagDecoder) (s : List ℕ) → Octets s → {x : Event} → (decode_eof es ps d s).answer ≡ Ok (answer.Event x)
     → 256 * (length s - (decode_eof es ps d s).taken) + weight (decode_eof es ps d s).state < 256 * length s + weight d
 eof_event_nearer es ps d s byte q = eof_nearer es ps d s byte (eof_exits es ps d s) (ap is_no_event q)
 
@@ -136,7 +136,7 @@ eof_event_nearer es ps d s byte q = eof_nearer es ps d s byte (eof_exits es ps d
 
 module _ (es ps : List ℕ) (d : TagDecoder) (s : List ℕ) where
   -- an event is answered only where 10, 11 and 12 are passed
-  exit_passed : {a : Decision} → Exit es ps d s a → is_no_event (apply ps d a).answer ≡ false → check_record10to12 es ps d (length s) ≡ Pass
+  exit_passed : {a : Decision} → Exit es ps d s a → is_no_event (apply ps d a).answer ≡ false → check_record10to12 es ps d (length s) ≡ Ok tt
   unfolding apply move
   exit_passed (exit.refused_first x e) q = absurd (true≢false q)
   exit_passed (exit.after_finish e f l) q = e

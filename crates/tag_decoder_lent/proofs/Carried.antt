@@ -12,11 +12,9 @@ use Rattle.decoder_rules.specs.EndOfInput.{decode_eof}
 use Rattle.decoder_rules.specs.Recovery.{try_recover}
 use Rattle.decoder_rules.specs.FirstPlace.{stands_at, first_place}
 use Rattle.decoder_rules.specs.declared.types.Answer.TheVariants as answer
-use Rattle.decoder_rules.specs.declared.types.Check.TheVariants.{Pass}
 use Rattle.decoder_rules.specs.declared.types.Decoded.{Decoded}
 use Rattle.decoder_rules.specs.declared.types.Event.TheVariants.{End}
 use Rattle.decoder_rules.specs.declared.types.Refusal.{Refusal}
-use Rattle.decoder_rules.specs.declared.types.Search.TheVariants as search
 use Rattle.decoder_rules.specs.declared.types.TagDecoder.{TagDecoder}
 use Rattle.tag_decoder.proofs.CallLaws as by_value
 use Rattle.decoder_rules.specs.declared.types.WaitingEnd.{WaitingEnd}
@@ -27,6 +25,7 @@ use Rattle.tag_decoder.proofs.CallLaws.{CallFacts}
 use Rattle.tag_decoder_lent.specs.Lent.{ReturnsAndLeaves, apart, recovery_apart}
 use Rattle.tag_decoder_lent.specs.declared.types.Reply.{Reply}
 use Rattle.tag_decoder_lent.specs.declared.types.RecoveryReply.{RecoveryReply}
+use Rattle.std.specs.Prelude.{Err, Ok}
 
 -- what holds of the two parts of an answer holds of what a call returns and leaves
 pub carried : {A : Type 0} (P : A → TagDecoder → Type 0) {r : A} {e : TagDecoder} {p : A × TagDecoder} → ReturnsAndLeaves r e p → P p.0 p.1 → P r e
@@ -39,8 +38,8 @@ carried P {r} {e} {p} l h = subst (λ z. P r z) (sym l.left) (subst (λ a. P a p
 pub record LentFacts (d f : TagDecoder) (n : ℕ) (r : Reply) (e : TagDecoder) : Type 0 where
   pub within : r.taken ≤ n
   pub moves : e.position ≡ d.position + r.taken
-  pub refusal : {x : Refusal} → r.answer ≡ answer.Refused x → (r.taken ≡ 0) × (e ≡ f)
-  pub end : {end : WaitingEnd} → r.answer ≡ answer.Event (End end) → r.taken ≡ 0
+  pub refusal : {x : Refusal} → r.answer ≡ Err x → (r.taken ≡ 0) × (e ≡ f)
+  pub end : {end : WaitingEnd} → r.answer ≡ Ok (answer.Event (End end)) → r.taken ≡ 0
 
 told-lent : {d f : TagDecoder} {n : ℕ} {a : Decoded} {r : Reply} {e : TagDecoder} → CallFacts d f n a → ReturnsAndLeaves r e (apart a) → LentFacts d f n r e
 told-lent {d} {f} {n} t l = carried (LentFacts d f n) l (record { within = t.within; moves = t.moves; refusal = t.refusal; end = t.end })
@@ -67,11 +66,11 @@ module _ (es ps : List ℕ) (d : TagDecoder) (s : List ℕ) {r : RecoveryReply} 
 
   -- where it is not refused, they are the bytes before the first place where an incomplete or a valid header stands, and
   -- it finds a header exactly where a valid one stands there
-  pub recovery_tells_first : check_record10to12 es ps d (length s) ≡ Pass → let i = first_place ps (table_of es ps) d s in
+  pub recovery_tells_first : check_record10to12 es ps d (length s) ≡ Ok tt → let i = first_place ps (table_of es ps) d s in
       Tells (stands_at ps (table_of es ps) d s i) i r.answer r.taken
   recovery_tells_first e =
       let i = first_place ps (table_of es ps) d s in
       carried (λ r e. Tells (stands_at ps (table_of es ps) d s i) i r.answer r.taken) l (first.recovery_tells_first es ps d s e)
 
-  pub refused_recovery_changes_nothing : {x : Refusal} → r.answer ≡ search.Refused x → (r.taken ≡ 0) × (e ≡ d)
-  refused_recovery_changes_nothing {x} = carried (λ r e. r.answer ≡ search.Refused x → (r.taken ≡ 0) × (e ≡ d)) l (by_value.refused_recovery_changes_nothing es ps d s)
+  pub refused_recovery_changes_nothing : {x : Refusal} → r.answer ≡ Err x → (r.taken ≡ 0) × (e ≡ d)
+  refused_recovery_changes_nothing {x} = carried (λ r e. r.answer ≡ Err x → (r.taken ≡ 0) × (e ≡ d)) l (by_value.refused_recovery_changes_nothing es ps d s)

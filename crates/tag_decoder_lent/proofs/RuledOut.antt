@@ -15,6 +15,7 @@ use Rattle.decoder_rules.specs.declared.types.TagDecoder.{TagDecoder}
 use Rattle.table.specs.BenchTable.{bench_entries, bench_parts}
 use Rattle.tag_decoder_lent.specs.Lent.{ReturnsAndLeaves, apart}
 use Rattle.tag_decoder_lent.specs.declared.types.Reply.{Reply}
+use Rattle.std.specs.Prelude.{Ok}
 
 -- an Amount without its payload, and a Session's start
 abbrev amount : List ℕ
@@ -23,11 +24,11 @@ amount = 0xA2 ∷ 0x81 ∷ []
 abbrev session : List ℕ
 session = 0x4E ∷ 0x01 ∷ 0xFF ∷ []
 
-needs_more_lem : ((decode bench_entries bench_parts fresh amount).answer ≡ NeedMore 1) × ((decode bench_entries bench_parts fresh amount).state.settled ≡ true)
+needs_more_lem : ((decode bench_entries bench_parts fresh amount).answer ≡ Ok (NeedMore 1)) × ((decode bench_entries bench_parts fresh amount).state.settled ≡ true)
 unfolding rules_compute
 needs_more_lem = (refl, refl)
 
-starts : ((decode bench_entries bench_parts fresh session).answer ≡ Event (Start 0x4E01 0)) × ((decode bench_entries bench_parts fresh session).state.open_count ≡ 1)
+starts : ((decode bench_entries bench_parts fresh session).answer ≡ Ok (Event (Start 0x4E01 0))) × ((decode bench_entries bench_parts fresh session).state.open_count ≡ 1)
 unfolding rules_compute
 starts = (refl, refl)
 

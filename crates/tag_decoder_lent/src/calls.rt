@@ -1,37 +1,40 @@
-// `decode`, `decode_eof` and `try_recover` on a lent record.
+//! `decode`, `decode_eof` and `try_recover` on a lent record.
 
 ghost use Rattle.decoder_rules.specs.Moving.{decode};
 ghost use Rattle.decoder_rules.specs.EndOfInput.{decode_eof};
 ghost use Rattle.decoder_rules.specs.Recovery.{try_recover};
 ghost use Rattle.tag_decoder_lent.specs.Lent.{ReturnsAndLeaves, apart, recovery_apart};
 
-use crate::apart::{record_of, recovered_record_of, recovery_reply_of, reply_of};
 use crate::types::{RecoveryReply, Reply};
-use decoder_rules::types::TagDecoder;
+use decoder_rules::types::{Decoded, Recovered, TagDecoder};
 
-// One call: the next event, or need more, finished, or a refusal. The record lent moves as the answer's record has it.
+/// One call: the next event, or need more, finished, or a refusal. The record lent moves as the answer's record has it.
 pub fn decode(d: &mut TagDecoder, entries: &[u64], parts: &[u64], input: &[u8]) -> Reply
     ensures { ReturnsAndLeaves result d.new (apart (decode entries.now parts.now d.old input.now)) }
 {
-    let record = *d;
-    let answer = tag_decoder::calls::decode(entries, parts, record, input);
-    let next = record_of(answer);
+    let Decoded {
+        answer,
+        taken,
+        state: next,
+    } = tag_decoder::calls::decode(entries, parts, *d, input);
     *d = next;
-    reply_of(answer)
+    Reply { answer, taken }
 }
 
-// The same once the input has ended for good.
+/// The same once the input has ended for good.
 pub fn decode_eof(d: &mut TagDecoder, entries: &[u64], parts: &[u64], input: &[u8]) -> Reply
     ensures { ReturnsAndLeaves result d.new (apart (decode_eof entries.now parts.now d.old input.now)) }
 {
-    let record = *d;
-    let answer = tag_decoder::calls::decode_eof(entries, parts, record, input);
-    let last = record_of(answer);
+    let Decoded {
+        answer,
+        taken,
+        state: last,
+    } = tag_decoder::calls::decode_eof(entries, parts, *d, input);
     *d = last;
-    reply_of(answer)
+    Reply { answer, taken }
 }
 
-// The search for the next valid header.
+/// The search for the next valid header.
 pub fn try_recover(
     d: &mut TagDecoder,
     entries: &[u64],
@@ -40,9 +43,11 @@ pub fn try_recover(
 ) -> RecoveryReply
     ensures { ReturnsAndLeaves result d.new (recovery_apart (try_recover entries.now parts.now d.old input.now)) }
 {
-    let record = *d;
-    let answer = tag_decoder::recovery::try_recover(entries, parts, record, input);
-    let after = recovered_record_of(answer);
+    let Recovered {
+        answer,
+        taken,
+        state: after,
+    } = tag_decoder::recovery::try_recover(entries, parts, *d, input);
     *d = after;
-    recovery_reply_of(answer)
+    RecoveryReply { answer, taken }
 }

@@ -1,28 +1,25 @@
 -- The cases of the definitions of IDs, headers and payloads. Assumes nothing.
 use Prim.Native.Nat.{ℕ, zero, suc, ◌+◌, ◌-◌, ◌*◌, ◌^◌, ◌≤◌, ◌<◌}
-use mathlib.Core.Path.{◌≡◌, ◌∙◌}
+use mathlib.Core.Path.{◌≡◌, sym, ◌∙◌}
 use mathlib.Core.Bool.{false}
 use mathlib.Core.List.{List, [], ◌∷◌}
 use native.Mathlib.Omega.{arith}
 use native.Mathlib.Decide.{dec_le}
 use borrow.Author.Tests.{eq-eqb, ne_eqb, lt-ltb, le-ltb}
 use lib.ListN.{length, get_or, take, drop, length-drop}
-use lib.Seq.{length-take-le, take_all}
+use lib.Seq.{take_all}
 use Rattle.tools.specs.Bytes.{Octets, be_number}
-use Rattle.tools.specs.Integer.{arr_to_u64}
 use Rattle.tools.specs.Vint.{vint_length, less_present, missing_of_none, read_vint}
 use Rattle.tools.specs.declared.errors.ToolError.{ToolError}
-use Rattle.tools.specs.declared.integer.ArrToU64.{ArrToU64}
-use Rattle.tools.specs.declared.integer.ArrToU64.TheVariants as unsigned
-use Rattle.tools.specs.declared.vint.ReadVint.{ReadVint}
 use Rattle.tools.proofs.Marker.{length-le_8}
 use Rattle.table.specs.Table.{Entry, spec_for}
 use Rattle.table.specs.declared.types.TagDataType.{TagDataType}
 use Rattle.tag_parse.specs.Header.{id_length, read_tag_id, size_of, numeric, too_long, sized, after_id, read_header}
-use Rattle.tag_parse.specs.declared.types.ReadHeader.TheVariants as header
-use Rattle.tag_parse.specs.declared.types.ReadTagId.{ReadTagId}
-use Rattle.tag_parse.specs.declared.types.ReadTagId.TheVariants as id
 use Rattle.tag_parse.specs.declared.types.EBMLSize.TheVariants as size
+use Rattle.std.specs.Prelude.{Ok, Result}
+use Rattle.tools.specs.declared.status.Status.{Status}
+use Rattle.tools.specs.declared.status.Status.TheVariants as status
+use Rattle.tools.proofs.Statuses.{complete_parts}
 
 -- ---- IDs
 
@@ -43,16 +40,16 @@ id_width_lem b l = go (dec_le 1 b)
     go (yes h) = let w = length-le_8 b h l in rw (id_vint b (λ e. omega arith)) (record { least = omega arith; most = w })
     go (no f) = let e : b ≡ 0 = omega arith in rw (id_zero b e) (record { least = omega arith; most = omega arith })
 
-pub id_none : (s : List ℕ) → length s ≡ 0 → read_tag_id s ≡ id.NeedMore missing_of_none
+pub id_none : (s : List ℕ) → length s ≡ 0 → read_tag_id s ≡ status.NeedMore missing_of_none
 unfolding read_tag_id
 id_none s h = simp (eq-eqb _ _ h)
 
 module _ (s : List ℕ) (some : length s ≡ 0 → ⊥) where
-  pub id_short : length s < id_length (get_or s 0 0) → read_tag_id s ≡ id.NeedMore (less_present (id_length (get_or s 0 0)) s)
+  pub id_short : length s < id_length (get_or s 0 0) → read_tag_id s ≡ status.NeedMore (less_present (id_length (get_or s 0 0)) s)
   unfolding read_tag_id
   id_short h = simp (ne_eqb _ _ some, lt-ltb _ _ h)
 
-  pub id_whole : id_length (get_or s 0 0) ≤ length s → read_tag_id s ≡ id.TagId (be_number (take (id_length (get_or s 0 0)) s)) (id_length (get_or s 0 0))
+  pub id_whole : id_length (get_or s 0 0) ≤ length s → read_tag_id s ≡ status.Complete (be_number (take (id_length (get_or s 0 0)) s), id_length (get_or s 0 0))
   unfolding read_tag_id
   id_whole h = simp (ne_eqb _ _ some, le-ltb _ _ h)
 
@@ -74,13 +71,8 @@ reading_id s = none_or (dec_le 1 (length s))
     none_or (no f) = no_byte (omega arith)
 
 -- an ID that was read asks for no more
-pub not_more : {r : ReadTagId} {x n m : ℕ} → r ≡ id.TagId x n → r ≡ id.NeedMore m → ⊥
+pub not_more : {r : Status (ℕ × ℕ)} {x n m : ℕ} → r ≡ status.Complete (x, n) → r ≡ status.NeedMore m → ⊥
 not_more e m = let z : ◌≡◌ {A = ℕ} 0 1 = cc in omega arith
-
--- at most eight bytes are a number
-pub small_number : (s : List ℕ) → length s ≤ 8 → arr_to_u64 s ≡ unsigned.Value (be_number s)
-unfolding arr_to_u64
-small_number s h = rw (le-ltb _ _ h)
 
 -- ---- sizes
 
@@ -92,42 +84,20 @@ pub size_known : (v L : ℕ) → (v ≡ 2 ^ (7 * L) - 1 → ⊥) → size_of v L
 unfolding size_of
 size_known v L h = rw (ne_eqb _ _ h)
 
--- the bytes of an ID, taken for a number: they are at most eight, so they are one
-module _ (s : List ℕ) (n : ℕ) (r : ArrToU64) (some : length s ≡ 0 → ⊥) (byte : get_or s 0 0 < 256)
-    (is : n ≡ id_length (get_or s 0 0)) (there : n ≤ length s) (e : r ≡ arr_to_u64 (take n s)) where
-  taken : r ≡ unsigned.Value (be_number (take n s))
-  taken =
-      let w = id_width_lem (get_or s 0 0) byte in
-      let l : length (take n s) ≤ 8 = rw (length-take-le n s there) (omega arith) in
-      e ∙ small_number (take n s) l
-
-  pub id_value_lem : {x : ℕ} → r ≡ unsigned.Value x → read_tag_id s ≡ id.TagId x n
-  id_value_lem {x} f =
-      let v = taken in
-      let same : x ≡ be_number (take n s) = cc in
-      id_whole s some (rw (← is) there) ∙ rw (← is, same)
-
-  pub id_never : {x : ToolError} → r ≡ unsigned.Refused x → ⊥
-  id_never {x} f =
-      let v = taken in
-      let no : ◌≡◌ {A = ℕ} 0 1 = cc in
-      omega arith
-
 -- an ID that was read has 1 to 8 bytes, and they are all there
 pub record IdFront (n : ℕ) (s : List ℕ) : Type 0 where
   pub least : 1 ≤ n
   pub most : n ≤ 8
   pub whole : n ≤ length s
 
-pub id_front : (s : List ℕ) {x n : ℕ} → get_or s 0 0 < 256 → read_tag_id s ≡ id.TagId x n → IdFront n s
+pub id_front : (s : List ℕ) {x n : ℕ} → get_or s 0 0 < 256 → read_tag_id s ≡ status.Complete (x, n) → IdFront n s
 id_front s {x} {n} byte e = go (reading_id s)
   where
     go : ReadingId s → IdFront n s
     go (no_byte z) = absurd (not_more e (id_none s z))
     go (too_few some h) = absurd (not_more e (id_short s some h))
     go (all_there some h) =
-        let r = id_whole s some h in
-        let same : id_length (get_or s 0 0) ≡ n = cc in
+        let same : id_length (get_or s 0 0) ≡ n = (complete_parts _ _ _ _ (sym (id_whole s some h) ∙ e)).1 in
         let w = id_width_lem (get_or s 0 0) byte in
         rw (← same) (record { least = w.least; most = w.most; whole = h })
 
@@ -151,10 +121,10 @@ unfolding too_long
 long_by_kind kind v h = rw (lt-ltb _ _ h)
 
 module _ (t : List Entry) (s : List ℕ) where
-  pub header_none : {m : ℕ} → read_tag_id s ≡ id.NeedMore m → read_header t s ≡ header.NeedMore (m + 1)
+  pub header_none : {m : ℕ} → read_tag_id s ≡ status.NeedMore m → read_header t s ≡ Ok (status.NeedMore (m + 1))
   unfolding read_header after_id
   header_none e = rw e
 
-  pub header_sized : {x n : ℕ} {r : ReadVint} → read_tag_id s ≡ id.TagId x n → r ≡ read_vint (drop n s) → read_header t s ≡ sized x (spec_for t x) n r
+  pub header_sized : {x n : ℕ} {r : Result (Status (ℕ × ℕ)) ToolError} → read_tag_id s ≡ status.Complete (x, n) → r ≡ read_vint (drop n s) → read_header t s ≡ sized x (spec_for t x) n r
   unfolding read_header after_id
   header_sized e f = rw (e, f)

@@ -12,7 +12,6 @@ use lib.ListN.{length, drop, replicate, length-append, length-drop, length-repli
 use lib.Seq.{drop_at, drop-append-le}
 use Rattle.tools.specs.Bytes.{Octets, be_from}
 use Rattle.tools.specs.Vint.{read_vint, vint_needs_more, vint_missing}
-use Rattle.tools.specs.declared.vint.ReadVint.TheVariants as vint
 use Rattle.tools.proofs.BigEndian.{octets_append}
 use Rattle.tools.proofs.Cases.{Reading, no_byte, first_zero, too_few, all_there, reading, read_none, read_zero, read_whole}
 use Rattle.tools.proofs.Completing.{octets_ones, begun_missing, begun_whole, begun_least, begun_greatest, begun-over}
@@ -23,19 +22,19 @@ use Rattle.table.specs.declared.types.Spec.{Spec}
 use Rattle.tag_parse.specs.Header.{read_tag_id, id_missing, size_of, header_of, sized_by, sized, read_header, header_needs_more, header_missing}
 use Rattle.tag_parse.specs.Missing.{SizeBegun, size_length, size_with, CompletesToSize0}
 use Rattle.tag_parse.specs.declared.types.EBMLSize.TheVariants as size
-use Rattle.tag_parse.specs.declared.types.ReadTagId.{ReadTagId}
-use Rattle.tag_parse.specs.declared.types.ReadTagId.TheVariants as id
-use Rattle.tag_parse.specs.declared.types.ReadHeader.TheVariants as header
 use Rattle.tag_parse.proofs.Cases.{not_long, header_sized, octets_drop}
 use Rattle.tag_parse.proofs.Ids.{id_local}
 use Rattle.tag_parse.proofs.Missing.{id_missing_lem, id_there, id_completed, sized_asks, part_missing, after_missing}
+use Rattle.std.specs.Prelude.{Ok}
+use Rattle.tools.specs.declared.status.Status.{Status}
+use Rattle.tools.specs.declared.status.Status.TheVariants as status
 
 -- a size byte 80 is the size 0
-byte_80 : read_vint (128 ∷ []) ≡ vint.Vint 0 1
+byte_80 : read_vint (128 ∷ []) ≡ Ok (status.Complete (0, 1))
 unfolding read_vint count_leading_zeros be_from
 byte_80 = refl
 
-size_0 : (x : ℕ) (spec : Spec) (n : ℕ) → sized x spec n (read_vint (128 ∷ [])) ≡ header.Header (header_of x spec n 0 1)
+size_0 : (x : ℕ) (spec : Spec) (n : ℕ) → sized x spec n (read_vint (128 ∷ [])) ≡ Ok (status.Complete (header_of x spec n 0 1))
 unfolding sized sized_by
 size_0 x spec n = rw (byte_80, not_long spec.kind 0 (omega arith))
 
@@ -45,15 +44,15 @@ is_0 = refl
 
 module _ (t : List Entry) (s : List ℕ) where
   -- an ID that is just whole, and 80
-  ends_in_80 : (u : List ℕ) {x n : ℕ} → read_tag_id (s ++ u) ≡ id.TagId x n → length (s ++ u) ≡ n
-      → read_header t (s ++ (u ++ (128 ∷ []))) ≡ header.Header (header_of x (spec_for t x) n 0 1)
+  ends_in_80 : (u : List ℕ) {x n : ℕ} → read_tag_id (s ++ u) ≡ status.Complete (x, n) → length (s ++ u) ≡ n
+      → read_header t (s ++ (u ++ (128 ∷ []))) ≡ Ok (status.Complete (header_of x (spec_for t x) n 0 1))
   ends_in_80 u {x} {n} f all =
       rw (← append_assoc s u (128 ∷ []))
       (header_sized t ((s ++ u) ++ (128 ∷ [])) (id_local (s ++ u) (128 ∷ []) f) refl
       ∙ rw (drop_at (s ++ u) (128 ∷ []) n all) (size_0 x (spec_for t x) n))
 
   -- the ID is incomplete
-  id_first : {m : ℕ} → read_tag_id s ≡ id.NeedMore m → CompletesToSize0 t s
+  id_first : {m : ℕ} → read_tag_id s ≡ status.NeedMore m → CompletesToSize0 t s
   id_first {m} e =
       let q = (id_missing_lem s).enough in
       let count : length q.further ≡ m = q.count ∙ ap id_missing e in
@@ -68,7 +67,7 @@ module _ (t : List Entry) (s : List ℕ) where
       }
 
   -- no byte of the size is there
-  size_first : {x n : ℕ} → read_tag_id s ≡ id.TagId x n → length (drop n s) ≡ 0 → header_missing (read_header t s) ≡ 1 → CompletesToSize0 t s
+  size_first : {x n : ℕ} → read_tag_id s ≡ status.Complete (x, n) → length (drop n s) ≡ 0 → header_missing (read_header t s) ≡ 1 → CompletesToSize0 t s
   size_first {x} {n} e z one =
       let there = id_there s e in
       let all : length s ≡ n = omega (arith, length-drop n s) in
@@ -85,15 +84,15 @@ module _ (t : List Entry) (s : List ℕ) where
   pub begun_or_0 : header_needs_more (read_header t s) ≡ true → SizeBegun s ⊎ CompletesToSize0 t s
   begun_or_0 = at-id (read_tag_id s) refl
     where
-      behind : (x n : ℕ) → read_tag_id s ≡ id.TagId x n → vint_needs_more (read_vint (drop n s)) ≡ true → Reading (drop n s) → SizeBegun s ⊎ CompletesToSize0 t s
+      behind : (x n : ℕ) → read_tag_id s ≡ status.Complete (x, n) → vint_needs_more (read_vint (drop n s)) ≡ true → Reading (drop n s) → SizeBegun s ⊎ CompletesToSize0 t s
       behind x n e m (no_byte z) = inr (size_first e z (after_missing t s e ∙ ap vint_missing (read_none (drop n s) z)))
       behind x n e m (first_zero some z) = absurd (true≢false (sym m ∙ ap vint_needs_more (read_zero (drop n s) some z)))
       behind x n e m (too_few some z h) = inl (record { x = x; n = n; whole = e; some = some; first = z; short = h })
       behind x n e m (all_there some z h) = absurd (true≢false (sym m ∙ ap vint_needs_more (read_whole (drop n s) some z h)))
 
-      at-id : (r : ReadTagId) → read_tag_id s ≡ r → header_needs_more (read_header t s) ≡ true → SizeBegun s ⊎ CompletesToSize0 t s
-      at-id (id.NeedMore missing) e m = inr (id_first e)
-      at-id (id.TagId x n) e m =
+      at-id : (r : Status (ℕ × ℕ)) → read_tag_id s ≡ r → header_needs_more (read_header t s) ≡ true → SizeBegun s ⊎ CompletesToSize0 t s
+      at-id (status.NeedMore missing) e m = inr (id_first e)
+      at-id (status.Complete (x, n)) e m =
           behind x n e (sym (ap header_needs_more (header_sized t s e refl) ∙ sized_asks x (spec_for t x) n (read_vint (drop n s))) ∙ m) (reading (drop n s))
 
   module _ (b : SizeBegun s) where

@@ -13,8 +13,8 @@ use Rattle.tools.specs.Vint.{IsVint}
 use Rattle.tools.specs.ElementId.{is_element_id, element_id_length, id_value, id_bytes}
 use Rattle.tools.proofs.ElementIds.{id_octets, octets_only, id_marker}
 use Rattle.tag_parse.specs.Header.{read_tag_id, IsId}
-use Rattle.tag_parse.specs.declared.types.ReadTagId.TheVariants as id
 use Rattle.tag_parse.proofs.Ids.{id_sound, id_complete}
+use Rattle.tools.specs.declared.status.Status.TheVariants as status
 
 -- the bytes of an accepted ID are its octets
 pub accepted_octets : (x : ℕ) → is_element_id x ≡ true → IsId x (element_id_length x) (id_bytes x)
@@ -25,13 +25,13 @@ accepted_octets x e =
     record { number = i.marked ∙ omega (arith, m.lo); count = i.count; shape = inr (id_value L x, i) }
 
 -- so they read back as it, whatever follows
-pub reads_back_lem : (x : ℕ) (rest : List ℕ) → is_element_id x ≡ true → read_tag_id (id_bytes x ++ rest) ≡ id.TagId x (element_id_length x)
+pub reads_back_lem : (x : ℕ) (rest : List ℕ) → is_element_id x ≡ true → read_tag_id (id_bytes x ++ rest) ≡ status.Complete (x, element_id_length x)
 reads_back_lem x rest e =
     let i = accepted_octets x e in
     id_complete (id_bytes x ++ rest) x (element_id_length x) (rw (take_at (id_bytes x) rest (element_id_length x) i.count) i)
 
 -- and bytes that read as it are these
-pub only_bytes : (s : List ℕ) (x n : ℕ) → Octets s → is_element_id x ≡ true → read_tag_id s ≡ id.TagId x n → take n s ≡ id_bytes x
+pub only_bytes : (s : List ℕ) (x n : ℕ) → Octets s → is_element_id x ≡ true → read_tag_id s ≡ status.Complete (x, n) → take n s ≡ id_bytes x
 unfolding be_from
 only_bytes s x n byte e r = go i.shape
   where

@@ -15,8 +15,9 @@ use Rattle.tools.specs.Vint.{IsVint, vint_length, vint_value}
 use Rattle.tools.proofs.Cases.{read_whole, short_needs_more}
 use Rattle.tools.proofs.Rfc8794.{read_sound, first_octet, vint_needs_more_lem}
 use Rattle.tag_parse.specs.Header.{id_length, read_tag_id, id_needs_more, IsId, IdPart}
-use Rattle.tag_parse.specs.declared.types.ReadTagId.TheVariants as id
 use Rattle.tag_parse.proofs.Cases.{ReadingId, no_byte, too_few, all_there, reading_id, not_more, id_zero, id_vint, id_none, id_short, id_whole}
+use Rattle.tools.specs.declared.status.Status.TheVariants as status
+use Rattle.tools.proofs.Statuses.{complete_parts}
 
 -- ---- an ID is read exactly where it stands in front
 
@@ -35,17 +36,15 @@ stands s byte some h = record { number = refl; count = length-take-le _ s h; sha
         inl (rw (id_zero (get_or s 0 0) z, take-suc s 0 0 (omega arith), z))
 
 -- an ID that is read stands at the front
-pub id_sound : (s : List ℕ) (x n : ℕ) → Octets s → read_tag_id s ≡ id.TagId x n → IsId x n (take n s)
+pub id_sound : (s : List ℕ) (x n : ℕ) → Octets s → read_tag_id s ≡ status.Complete (x, n) → IsId x n (take n s)
 id_sound s x n byte e = go (reading_id s)
   where
     go : ReadingId s → IsId x n (take n s)
     go (no_byte z) = absurd (not_more e (id_none s z))
     go (too_few some h) = absurd (not_more e (id_short s some h))
     go (all_there some h) =
-        let r = id_whole s some h in
-        let l : id_length (get_or s 0 0) ≡ n = cc in
-        let b : be_number (take (id_length (get_or s 0 0)) s) ≡ x = cc in
-        rw (← b, ← l) (stands s byte some h)
+        let p = complete_parts _ _ _ _ (sym (id_whole s some h) ∙ e) in
+        rw (← p.0, ← p.1) (stands s byte some h)
 
 -- the first octet of an ID says how many there are
 pub record FirstOfId (n first : ℕ) : Type 0 where
@@ -73,7 +72,7 @@ id_at_most_8 {x} {n} {octets} i = go i.shape
     go (inr (v, vint)) = vint.at_most_8
 
 -- an ID that stands at the front is read
-pub id_complete : (s : List ℕ) (x n : ℕ) → IsId x n (take n s) → read_tag_id s ≡ id.TagId x n
+pub id_complete : (s : List ℕ) (x n : ℕ) → IsId x n (take n s) → read_tag_id s ≡ status.Complete (x, n)
 id_complete s x n i =
     let f = first_of_id (take n s) i in
     let whole : n ≤ length s = omega (arith, i.count, length-take n s) in
@@ -82,7 +81,7 @@ id_complete s x n i =
     id_whole s (λ z. omega (arith, f.some)) (rw w whole) ∙ rw (w, i.number)
 
 -- so an ID is answered exactly where its octets stand in front
-pub id_exactly : (s : List ℕ) (x n : ℕ) → Octets s → (read_tag_id s ≡ id.TagId x n) ↔ IsId x n (take n s)
+pub id_exactly : (s : List ℕ) (x n : ℕ) → Octets s → (read_tag_id s ≡ status.Complete (x, n)) ↔ IsId x n (take n s)
 id_exactly s x n byte = (id_sound s x n byte, id_complete s x n)
 
 -- ---- need more, and what is appended
@@ -124,10 +123,10 @@ id_needs_more_lem s byte = (part (reading_id s), λ p. asks p.identifier p.part 
         absurd (omega (arith, m.some))
 
 -- an ID that is read stays when bytes are appended
-pub id_local : (s t : List ℕ) {x n : ℕ} → read_tag_id s ≡ id.TagId x n → read_tag_id (s ++ t) ≡ id.TagId x n
+pub id_local : (s t : List ℕ) {x n : ℕ} → read_tag_id s ≡ status.Complete (x, n) → read_tag_id (s ++ t) ≡ status.Complete (x, n)
 id_local s t {x} {n} e = go (reading_id s)
   where
-    go : ReadingId s → read_tag_id (s ++ t) ≡ id.TagId x n
+    go : ReadingId s → read_tag_id (s ++ t) ≡ status.Complete (x, n)
     go (no_byte z) = absurd (not_more e (id_none s z))
     go (too_few some h) = absurd (not_more e (id_short s some h))
     go (all_there some h) =

@@ -1,22 +1,20 @@
 -- Document 01, "One call of the decoder", step 5: the header of an element.
-use Rattle.std.specs.Prelude.{ℕ, ◌+◌, ◌≤◌, Bool, true, false, cond, ◌&&◌, List, [], ◌∷◌, ◌++◌, ◌⊎◌, ◌≡◌, ltb, eqb, length, get_or, take, drop}
+use Rattle.std.specs.Prelude.{ℕ, ◌+◌, ◌≤◌, Bool, true, false, cond, ◌&&◌, List, [], ◌∷◌, ◌++◌, ◌⊎◌, ◌≡◌, ltb, eqb, length, get_or, take, drop, Err, Ok, Result}
 use Rattle.basics.specs.Lists.{ProperPrefix}
 use Rattle.tools.specs.Bytes.{be_number}
 use Rattle.tools.specs.Vint.{IsVint, Front, FirstByte0, vint_length, all_ones, less_present, missing_of_none, read_vint}
-use Rattle.tools.specs.declared.vint.ReadVint.{ReadVint}
-use Rattle.tools.specs.declared.vint.ReadVint.TheVariants as vint
 use Rattle.table.specs.Table.{Entry, spec_for, data_type_of, range_of}
 use Rattle.table.specs.declared.types.Spec.{Spec}
 use Rattle.table.specs.declared.types.TagDataType.{TagDataType}
 use Rattle.table.specs.declared.types.TagDataType.TheVariants as type
 use Rattle.tag_parse.specs.declared.types.ParseError.TheVariants.{InvalidTagData}
-use Rattle.tag_parse.specs.declared.types.ReadTagId.{ReadTagId}
-use Rattle.tag_parse.specs.declared.types.ReadTagId.TheVariants as id
 use Rattle.tag_parse.specs.declared.types.EBMLSize.{EBMLSize}
 use Rattle.tag_parse.specs.declared.types.EBMLSize.TheVariants as size
 use Rattle.tag_parse.specs.declared.types.TagHeader.{TagHeader}
-use Rattle.tag_parse.specs.declared.types.ReadHeader.{ReadHeader}
-use Rattle.tag_parse.specs.declared.types.ReadHeader.TheVariants as header
+use Rattle.tag_parse.specs.declared.types.ParseError.{ParseError}
+use Rattle.tools.specs.declared.status.Status.{Status}
+use Rattle.tools.specs.declared.errors.ToolError.{ToolError}
+use Rattle.tools.specs.declared.status.Status.TheVariants as status
 
 -- ---- the ID
 
@@ -25,22 +23,22 @@ abbrev pub id_length : ℕ → ℕ
 id_length first = cond (eqb first 0) 1 (vint_length first)
 
 -- an ID of L bytes at the front of s, "marker kept"; where s is shorter it needs more, as many as a vint of L bytes
-abbrev pub id_at : ℕ → List ℕ → ReadTagId
-id_at L s = cond (ltb (length s) L) (id.NeedMore (less_present L s)) (id.TagId (be_number (take L s)) L)
+abbrev pub id_at : ℕ → List ℕ → Status (ℕ × ℕ)
+id_at L s = cond (ltb (length s) L) (status.NeedMore (less_present L s)) (status.Complete (be_number (take L s), L))
 
 -- the ID at the front of s
-unfoldable pub read_tag_id : List ℕ → ReadTagId
-read_tag_id s = cond (eqb (length s) 0) (id.NeedMore missing_of_none) (id_at (id_length (get_or s 0 0)) s)
+unfoldable pub read_tag_id : List ℕ → Status (ℕ × ℕ)
+read_tag_id s = cond (eqb (length s) 0) (status.NeedMore missing_of_none) (id_at (id_length (get_or s 0 0)) s)
 
 -- the answer asks for more bytes
-abbrev pub id_needs_more : ReadTagId → Bool
-id_needs_more (id.NeedMore missing) = true
-id_needs_more (id.TagId x n) = false
+abbrev pub id_needs_more : Status (ℕ × ℕ) → Bool
+id_needs_more (status.NeedMore missing) = true
+id_needs_more (status.Complete (x, n)) = false
 
 -- how many bytes it asks for, at least: 0 where it asks for none
-abbrev pub id_missing : ReadTagId → ℕ
-id_missing (id.NeedMore missing) = missing
-id_missing (id.TagId x n) = 0
+abbrev pub id_missing : Status (ℕ × ℕ) → ℕ
+id_missing (status.NeedMore missing) = missing
+id_missing (status.Complete (x, n)) = 0
 
 -- ---- the size
 
@@ -69,36 +67,36 @@ abbrev pub header_of : ℕ → Spec → ℕ → ℕ → ℕ → TagHeader
 header_of x spec n v L = record { id = x; kind = spec.kind; path = spec.path; size = size_of v L; len = n + L }
 
 -- an ID of n bytes and a size vint of the value v in L bytes
-unfoldable pub sized_by : ℕ → Spec → ℕ → ℕ → ℕ → ReadHeader
-sized_by x spec n v L = cond (too_long spec.kind v) (header.Refused InvalidTagData) (header.Header (header_of x spec n v L))
+unfoldable pub sized_by : ℕ → Spec → ℕ → ℕ → ℕ → Result (Status TagHeader) ParseError
+sized_by x spec n v L = cond (too_long spec.kind v) (Err InvalidTagData) (Ok (status.Complete (header_of x spec n v L)))
 
 -- what the size vint makes of it: "Size byte 0" is refusal 14
-unfoldable pub sized : ℕ → Spec → ℕ → ReadVint → ReadHeader
-sized x spec n (vint.NeedMore missing) = header.NeedMore missing
-sized x spec n (vint.Refused e) = header.Refused InvalidTagData
-sized x spec n (vint.Vint v L) = sized_by x spec n v L
+unfoldable pub sized : ℕ → Spec → ℕ → Result (Status (ℕ × ℕ)) ToolError → Result (Status TagHeader) ParseError
+sized x spec n (Ok (status.NeedMore missing)) = Ok (status.NeedMore missing)
+sized x spec n (Err e) = Err InvalidTagData
+sized x spec n (Ok (status.Complete (v, L))) = sized_by x spec n v L
 
 -- the size vint stands right after the ID; document 02, CR 1: "The header adds 1 for the size while the ID is
 -- incomplete"
-unfoldable pub after_id : List Entry → List ℕ → ReadTagId → ReadHeader
-after_id t s (id.NeedMore missing) = header.NeedMore (missing + 1)
-after_id t s (id.TagId x n) = sized x (spec_for t x) n (read_vint (drop n s))
+unfoldable pub after_id : List Entry → List ℕ → Status (ℕ × ℕ) → Result (Status TagHeader) ParseError
+after_id t s (status.NeedMore missing) = Ok (status.NeedMore (missing + 1))
+after_id t s (status.Complete (x, n)) = sized x (spec_for t x) n (read_vint (drop n s))
 
 -- the header at the front of s
-unfoldable pub read_header : List Entry → List ℕ → ReadHeader
+unfoldable pub read_header : List Entry → List ℕ → Result (Status TagHeader) ParseError
 read_header t s = after_id t s (read_tag_id s)
 
 -- the answer asks for more bytes
-abbrev pub header_needs_more : ReadHeader → Bool
-header_needs_more (header.NeedMore missing) = true
-header_needs_more (header.Refused e) = false
-header_needs_more (header.Header h) = false
+abbrev pub header_needs_more : Result (Status TagHeader) ParseError → Bool
+header_needs_more (Ok (status.NeedMore missing)) = true
+header_needs_more (Err e) = false
+header_needs_more (Ok (status.Complete h)) = false
 
 -- how many bytes it asks for, at least: 0 where it asks for none
-abbrev pub header_missing : ReadHeader → ℕ
-header_missing (header.NeedMore missing) = missing
-header_missing (header.Refused e) = 0
-header_missing (header.Header h) = 0
+abbrev pub header_missing : Result (Status TagHeader) ParseError → ℕ
+header_missing (Ok (status.NeedMore missing)) = missing
+header_missing (Err e) = 0
+header_missing (Ok (status.Complete h)) = 0
 
 -- ---- what is accepted, as relations on octets
 

@@ -1,43 +1,38 @@
-// A payload's bytes and its type to a value: `value_of` for an element whose header was read, `read_data_tag` for any
-// bytes.
+//! A payload's bytes and its type to a value: `value_of` for an element whose header was read, `read_data_tag` for any
+//! bytes.
 
 ghost use Rattle.std.specs.Prelude.{◌≡◌, true, ◌+◌, ◌^◌, ◌≤◌, ◌<◌, length};
-ghost use Rattle.tools.specs.Integer.{arr_to_u64, arr_to_i64};
-ghost use Rattle.tag_parse.specs.Payload.{is_integer, text_of, before_zero, text_value, float_value, value_of, unsigned_data, integer_data, data_of, read_data};
+ghost use Rattle.tag_parse.specs.Payload.{is_integer, text_of, before_zero, text_value, float_value, value_of, read_data};
 
-use crate::types::{ParseError, Range, ReadData, ReadValue, TagValue};
+use crate::types::{DataError, ParseError, Range, TagValue};
 use table::types::TagDataType;
-use tools::float::{ArrToF64, arr_to_f64};
-use tools::integer::{ArrToI64, ArrToU64, arr_to_i64, arr_to_u64, integer_of, unsigned_of};
+use tools::float::arr_to_f64;
+use tools::integer::{arr_to_i64, arr_to_u64, integer_of, unsigned_of};
 use utf8::is_utf8;
 
 // A text, by where it lies, if it is UTF-8.
-fn text_of(raw_data: &[u8], range: Range) -> ReadValue
+fn text_of(raw_data: &[u8], range: Range) -> Result<TagValue, ParseError>
     ensures { result ≡ text_of raw_data.now range }
 {
     if is_utf8(raw_data) {
-        return ReadValue::Value(TagValue::Utf8(range));
+        Ok(TagValue::Utf8(range))
+    } else {
+        Err(ParseError::FromUtf8Error)
     }
-    ReadValue::Refused(ParseError::FromUtf8Error)
 }
 
 // How many bytes come before the first zero byte.
 fn before_zero(raw_data: &[u8]) -> usize
     ensures { (result ≡ before_zero raw_data.now) × (result ≤ length raw_data.now) }
 {
-    let n = raw_data.len();
-    let mut i: usize = 0;
-    while i < n {
-        if raw_data[i] == 0 {
-            return i;
-        }
-        i += 1;
-    }
-    n
+    raw_data
+        .iter()
+        .position(|&byte| byte == 0)
+        .unwrap_or(raw_data.len())
 }
 
 // The text of a payload, which strictly ends at its first zero byte.
-fn text_value(strict: bool, raw_data: &[u8], range: Range) -> ReadValue
+fn text_value(strict: bool, raw_data: &[u8], range: Range) -> Result<TagValue, ParseError>
     requires { range.begin + length raw_data.now < 2 ^ 64 }
     ensures { result ≡ text_value strict raw_data.now range }
 {
@@ -45,90 +40,66 @@ fn text_value(strict: bool, raw_data: &[u8], range: Range) -> ReadValue
         return text_of(raw_data, range);
     }
     let n = before_zero(raw_data);
-    let begin = range.begin;
     let shown = Range {
-        begin,
-        end: begin + n as u64,
+        end: range.begin + n as u64,
+        ..range
     };
-    text_of(&raw_data[0..n], shown)
+    text_of(&raw_data[..n], shown)
 }
 
 // The value of a float.
-fn float_value(raw_data: &[u8]) -> ReadValue
+fn float_value(raw_data: &[u8]) -> Result<TagValue, ParseError>
     ensures { result ≡ float_value raw_data.now }
 {
-    if raw_data.len() == 0 {
-        return ReadValue::Value(TagValue::Float(0));
+    if raw_data.is_empty() {
+        return Ok(TagValue::Float(0));
     }
-    match arr_to_f64(raw_data) {
-        ArrToF64::Bits(b) => ReadValue::Value(TagValue::Float(b)),
-        ArrToF64::Refused(_) => ReadValue::Refused(ParseError::ReadF64Mismatch),
-    }
+    let bits = arr_to_f64(raw_data).map_err(|_| ParseError::ReadF64Mismatch)?;
+    Ok(TagValue::Float(bits))
 }
 
-// The value of a payload of a type, which has at most 8 bytes where it is an integer's; the range is where the payload
-// lies in the stream.
+/// The value of a payload of a type, which has at most 8 bytes where it is an integer's; the range is where the payload
+/// lies in the stream.
 #[tactic(auto, unfolding(crate::specs::Payload::value_of))]
-pub fn value_of(strict: bool, kind: TagDataType, raw_data: &[u8], range: Range) -> ReadValue
+pub fn value_of(
+    strict: bool,
+    kind: TagDataType,
+    raw_data: &[u8],
+    range: Range,
+) -> Result<TagValue, ParseError>
     requires raw_data_len_bound { is_integer kind ≡ true → length raw_data.now ≤ 8 }
     requires raw_data_bound { range.begin + length raw_data.now < 2 ^ 64 }
     ensures { result ≡ value_of strict kind raw_data.now range }
 {
     match kind {
-        TagDataType::UnsignedInt => ReadValue::Value(TagValue::UnsignedInt(unsigned_of(raw_data))),
-        TagDataType::Integer => ReadValue::Value(TagValue::Integer(integer_of(raw_data))),
+        TagDataType::UnsignedInt => Ok(TagValue::UnsignedInt(unsigned_of(raw_data))),
+        TagDataType::Integer => Ok(TagValue::Integer(integer_of(raw_data))),
         TagDataType::Utf8 => text_value(strict, raw_data, range),
-        TagDataType::Binary => ReadValue::Value(TagValue::Binary(range)),
+        TagDataType::Binary => Ok(TagValue::Binary(range)),
         TagDataType::Float => float_value(raw_data),
         // a Master has no payload of its own; the Rust calls this unreachable
-        TagDataType::Master => ReadValue::Value(TagValue::Raw(range)),
-        TagDataType::Untyped => ReadValue::Value(TagValue::Raw(range)),
+        TagDataType::Master => Ok(TagValue::Raw(range)),
+        TagDataType::Untyped => Ok(TagValue::Raw(range)),
     }
 }
 
-// What any bytes are as an unsigned number.
-fn unsigned_data(raw_data: &[u8]) -> ReadData
-    ensures { result ≡ unsigned_data (arr_to_u64 raw_data.now) }
-{
-    match arr_to_u64(raw_data) {
-        ArrToU64::Value(v) => ReadData::Value(TagValue::UnsignedInt(v)),
-        ArrToU64::Refused(e) => ReadData::NumberRefused(e),
-    }
-}
-
-// The same as a signed number.
-fn integer_data(raw_data: &[u8]) -> ReadData
-    ensures { result ≡ integer_data (arr_to_i64 raw_data.now) }
-{
-    match arr_to_i64(raw_data) {
-        ArrToI64::Value(v) => ReadData::Value(TagValue::Integer(v)),
-        ArrToI64::Refused(e) => ReadData::NumberRefused(e),
-    }
-}
-
-// The same answer where no number is refused.
-fn data_of(r: ReadValue) -> ReadData
-    ensures { result ≡ data_of r }
-{
-    match r {
-        ReadValue::Value(v) => ReadData::Value(v),
-        ReadValue::Refused(e) => ReadData::Refused(e),
-    }
-}
-
-// The value of a payload of a type, whatever its bytes are: an integer of over 8 bytes is refused as `arr_to_u64` and
-// `arr_to_i64` refuse it.
+/// The value of a payload of a type, whatever its bytes are: an integer of over 8 bytes is refused as `arr_to_u64` and
+/// `arr_to_i64` refuse it.
 #[tactic(auto, unfolding(crate::specs::Payload::read_data))]
-pub fn read_data_tag(kind: TagDataType, raw_data: &[u8], range: Range) -> ReadData
+pub fn read_data_tag(
+    kind: TagDataType,
+    raw_data: &[u8],
+    range: Range,
+) -> Result<TagValue, DataError>
     ensures { result ≡ read_data kind raw_data.now range }
 {
-    match kind {
-        TagDataType::UnsignedInt => unsigned_data(raw_data),
-        TagDataType::Integer => integer_data(raw_data),
-        TagDataType::Utf8 => data_of(text_of(raw_data, range)),
-        TagDataType::Binary => ReadData::Value(TagValue::Binary(range)),
-        TagDataType::Float => data_of(float_value(raw_data)),
-        TagDataType::Master => ReadData::Value(TagValue::Raw(range)),
-        TagDataType::Untyped => ReadData::Value(TagValue::Raw(range)),
-    }
+    Ok(match kind {
+        TagDataType::UnsignedInt => TagValue::UnsignedInt(arr_to_u64(raw_data)?),
+        TagDataType::Integer => TagValue::Integer(arr_to_i64(raw_data)?),
+        TagDataType::Utf8 => text_of(raw_data, range)?,
+        TagDataType::Binary => TagValue::Binary(range),
+        TagDataType::Float => float_value(raw_data)?,
+        TagDataType::Master => TagValue::Raw(range),
+        TagDataType::Untyped => TagValue::Raw(range),
+    })
 }

@@ -15,8 +15,7 @@ use Rattle.tag_writer.specs.Document.{Run, size_of_run, run_bytes}
 use Rattle.tag_writer.specs.Items.{Mark, marks_of, matched, run_of}
 use Rattle.tag_writer.specs.Write.{good_run, whole_items, most_items, is_passed, write}
 use Rattle.tag_writer.specs.declared.types.WriteError.{WriteError}
-use Rattle.tag_writer.specs.declared.types.Wrote.{Wrote}
-use Rattle.tag_writer.specs.declared.types.Wrote.TheVariants.{Written, Refused}
+use Rattle.std.specs.Prelude.{Err, Ok, Result}
 
 -- what holds where n bytes are written, and the output is o after it
 pub record WrittenSo (es ps items vals out : List ℕ) (n : ℕ) (o : List ℕ) : Type 0 where
@@ -37,7 +36,7 @@ module _ (es ps items vals out : List ℕ) where
   r = run_of ms
 
   -- "nothing written"
-  pub refused_writes_nothing : (e : WriteError) → (write es ps items vals out).0 ≡ Refused e → (write es ps items vals out).1 ≡ out
+  pub refused_writes_nothing : (e : WriteError) → (write es ps items vals out).0 ≡ Err e → (write es ps items vals out).1 ≡ out
   unfolding write
   refused_writes_nothing e =
       either P (is_passed (check_table es ps)) _ _
@@ -46,14 +45,14 @@ module _ (es ps items vals out : List ℕ) where
       (either P (whole_items items && good_run (table_of es ps) [] r) _ _
       (either P (leb (size_of_run r) (length out)) _ _ never (λ q. refl)) (λ q. refl)) (λ q. refl)) (λ q. refl)) (λ q. refl)
     where
-      P : Wrote × List ℕ → Type 0
-      P p = p.0 ≡ Refused e → p.1 ≡ out
+      P : Result ℕ WriteError × List ℕ → Type 0
+      P p = p.0 ≡ Err e → p.1 ≡ out
 
-      never : {n : ℕ} {o : List ℕ} → Written n ≡ Refused e → o ≡ out
+      never : {n : ℕ} {o : List ℕ} → Ok n ≡ Err e → o ≡ out
       never {n} q = let z : ◌≡◌ {A = ℕ} 0 1 = cc in absurd (omega arith)
 
   -- nothing was refused
-  pub written_so : (n : ℕ) → (write es ps items vals out).0 ≡ Written n → WrittenSo es ps items vals out n (write es ps items vals out).1
+  pub written_so : (n : ℕ) → (write es ps items vals out).0 ≡ Ok n → WrittenSo es ps items vals out n (write es ps items vals out).1
   unfolding write
   written_so n =
       pick P (is_passed (check_table es ps)) _ _
@@ -63,10 +62,10 @@ module _ (es ps items vals out : List ℕ) where
       (λ d. pick P (leb (size_of_run r) (length out)) _ _
       (λ f q. all a b c d f cc) (λ f. never)) (λ d. never)) (λ c. never)) (λ b. never)) (λ a. never)
     where
-      P : Wrote × List ℕ → Type 0
-      P p = p.0 ≡ Written n → WrittenSo es ps items vals out n p.1
+      P : Result ℕ WriteError × List ℕ → Type 0
+      P p = p.0 ≡ Ok n → WrittenSo es ps items vals out n p.1
 
-      never : {e : WriteError} {o : List ℕ} → Refused e ≡ Written n → WrittenSo es ps items vals out n o
+      never : {e : WriteError} {o : List ℕ} → Err e ≡ Ok n → WrittenSo es ps items vals out n o
       never {e} q = let z : ◌≡◌ {A = ℕ} 0 1 = cc in absurd (omega arith)
 
       all : is_passed (check_table es ps) ≡ true → leb (length ms) most_items ≡ true → matched [] ms ≡ true → (whole_items items && good_run (table_of es ps) [] r) ≡ true

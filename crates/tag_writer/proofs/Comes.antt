@@ -20,7 +20,6 @@ use Rattle.spec_util.specs.declared.types.OpenTag.{OpenTag}
 use Rattle.tag_parse.specs.Header.{too_long}
 use Rattle.tag_parse.specs.Payload.{value_of}
 use Rattle.tag_parse.specs.declared.types.EBMLSize.TheVariants.{Known}
-use Rattle.tag_parse.specs.declared.types.ReadValue.TheVariants as payload
 use Rattle.tag_parse.specs.declared.types.TagHeader.{TagHeader}
 use Rattle.tag_parse.specs.declared.types.TagValue.{TagValue}
 use Rattle.decoder_rules.specs.Moving.{gives, master_at, move, apply, decode}
@@ -28,9 +27,7 @@ use Rattle.decoder_rules.specs.OneCall.{is_full, step3, good_form, step6, step7,
 use Rattle.decoder_rules.specs.Record.{opens, end_of, with_open, with_notes, settled_to, opened, counted}
 use Rattle.decoder_rules.specs.declared.types.Action.{Action}
 use Rattle.decoder_rules.specs.declared.types.Answer.TheVariants as answer
-use Rattle.decoder_rules.specs.declared.types.Check.TheVariants.{Pass}
 use Rattle.decoder_rules.specs.declared.types.Event.TheVariants as event
-use Rattle.decoder_rules.specs.declared.types.Note.TheVariants.{Settle}
 use Rattle.decoder_rules.specs.declared.types.TagDecoder.{TagDecoder}
 use Rattle.decoder_rules.proofs.Exits.{AtElement, HeaderExit, starts as starts-exit, holds as holds-exit, AtHeader, on_header, exit_decides}
 use Rattle.tag_writer.specs.Document.{header_bytes}
@@ -40,6 +37,8 @@ use Rattle.tag_writer.proofs.HeaderBack.{head_of, header_back}
 use Rattle.tag_writer.proofs.Lengths.{header_some}
 use Rattle.tag_writer.proofs.Placing.{ids_of, every_known, no_tops, placed, at_top}
 use Rattle.tag_writer.proofs.Standing.{made_same, standing, stands_opens, All, all_every, Reaching, first_passes, first_none}
+use Rattle.std.specs.Prelude.{Ok, Result, Some}
+use Rattle.decoder_rules.specs.declared.types.DecodeError.{DecodeError}
 
 -- an element of ID x with n bytes in it comes at place p, in these open masters, with what is left after its header
 pub record Comes (strict : Bool) (t : List Entry) (b : Bool) (p : ℕ) (st : List OpenTag) (x n : ℕ) (rest : List ℕ) : Type 0 where
@@ -93,7 +92,7 @@ module _ (strict : Bool) (t : List Entry) (b : Bool) (p : ℕ) (st : List OpenTa
       let path : validate_tag_path strict t x (opens here) ≡ true = rw are_open (placed strict t x st all_known c.goes) in
       any_last (not (is_typed (data_type_of t x))) (not b) false path
 
-  size_passes : step9 here (length (header_bytes x n)) (Known n) ≡ Pass
+  size_passes : step9 here (length (header_bytes x n)) (Known n) ≡ Ok tt
   unfolding step9 fits_inside
   size_passes =
       let end = p + (length (header_bytes x n) + n) in
@@ -131,7 +130,7 @@ module _ (strict : Bool) (es ps : List ℕ) (p : ℕ) (x n : ℕ) where
       at-root e =
           let d = standing strict false p [] [] in
           let only : only_ids (path_of table x) ≡ true = ap only_ids e in
-          let note : step7 table d (head_of table x n) ≡ Settle (range_of table x) = rw (typed, only) in
+          let note : step7 table d (head_of table x n) ≡ Some (range_of table x) = rw (typed, only) in
           record {
             settled = true;
             is = ap (noted ps d) note ∙ ap (settled_to d) (path_in es ps x ∙ e);
@@ -208,7 +207,7 @@ module _ (es ps : List ℕ) (shape : good_shape es ps ≡ true) (strict b : Bool
       }
 
   -- the call is the move of what 8 to 11 decide on the record with the note
-  comes : {a : Action} → HeaderExit t with_note_lem h bytes a → decode es ps before_call bytes ≡ move with_note_lem a
+  comes : {a : Result Action DecodeError} → HeaderExit t with_note_lem h bytes a → decode es ps before_call bytes ≡ move with_note_lem a
   unfolding apply
   comes {a} exit =
       let six : step6 before_call h ≡ true = rw (c.form, c.typed) in
@@ -224,7 +223,7 @@ module _ (es ps : List ℕ) (shape : good_shape es ps ≡ true) (strict b : Bool
   -- a master
   pub starts : is_master (data_type_of t x) ≡ true
       → decode es ps before_call bytes
-      ≡ gives (answer.Event (event.Start x p)) (length H)
+      ≡ gives (Ok (answer.Event (event.Start x p))) (length H)
       (standing strict the_note.settled (p + length H) (once_more st ++ (master_at x (Known n) p (length H) ∷ [])) [])
   unfolding move opened counted with_open with_notes
   starts master =
@@ -232,18 +231,18 @@ module _ (es ps : List ℕ) (shape : good_shape es ps ≡ true) (strict b : Bool
       let o = ap (λ (l : List OpenTag). set l (length st) m) (more_filled st) ∙ filled_more no_tag (once_more st) (length st) m (more_length st) c.few in
       let k : length st + 1 ≡ length (once_more st ++ (m ∷ [])) = omega (arith, length-append (once_more st) (m ∷ []), more_length st) in
       comes (starts-exit element master c.few)
-      ∙ ap (gives (answer.Event (event.Start x p)) (length H)) (made_same strict the_note.settled (p + length H) o k refl refl)
+      ∙ ap (gives (Ok (answer.Event (event.Start x p))) (length H)) (made_same strict the_note.settled (p + length H) o k refl refl)
 
   -- a value, whose payload is the n bytes that come next
   module _ (data-bytes more : List ℕ) (v : TagValue) (count : length data-bytes ≡ n) (is-rest : rest ≡ data-bytes ++ more) (no_master_lem : is_master (data_type_of t x) ≡ false)
-      (read : value_of strict (data_type_of t x) data-bytes (record { begin = p + length (header_bytes x n); end = p + (length (header_bytes x n) + n) }) ≡ payload.Value v) where
+      (read : value_of strict (data_type_of t x) data-bytes (record { begin = p + length (header_bytes x n); end = p + (length (header_bytes x n) + n) }) ≡ Ok v) where
     -- is the Data
     pub holds : decode es ps before_call bytes
-        ≡ gives (answer.Event (event.Data x p v)) (length H + n) (standing strict the_note.settled (p + (length H + n)) (once_more st) [])
+        ≡ gives (Ok (answer.Event (event.Data x p v))) (length H + n) (standing strict the_note.settled (p + (length H + n)) (once_more st) [])
     unfolding move counted with_open with_notes
     holds =
         let one : drop (length H) (H ++ rest) ≡ rest = drop_at H rest (length H) refl in
         let two : take n rest ≡ data-bytes = ap (take n) is-rest ∙ take_at data-bytes more n count in
         let long : length H + n ≤ length (H ++ rest) = omega (arith, length-append H rest, ap length is-rest, length-append data-bytes more) in
         comes (holds-exit n v (record { at = element; no_master_lem = no_master_lem; known = refl }) long (rw (one, two, read)))
-        ∙ ap (gives (answer.Event (event.Data x p v)) (length H + n)) (made_same strict the_note.settled (p + (length H + n)) (more_filled st) (sym (more_length st)) refl refl)
+        ∙ ap (gives (Ok (answer.Event (event.Data x p v))) (length H + n)) (made_same strict the_note.settled (p + (length H + n)) (more_filled st) (sym (more_length st)) refl refl)

@@ -24,6 +24,7 @@ use Rattle.decoder_rules.specs.declared.types.Answer.TheVariants as answer
 use Rattle.decoder_rules.specs.declared.types.Event.TheVariants as event
 use Rattle.decoder_rules.specs.declared.types.TagDecoder.{TagDecoder}
 use Rattle.tag_writer.proofs.Standing.{standing, All, all_every, all_take, all_front, all_last, Reaching, first_passes, first_bound, first_test, hands_out, closes}
+use Rattle.std.specs.Prelude.{Ok}
 
 -- at place p these masters are open for the reader: the first k stand on the decoder's stack, the Ends of the others wait
 pub record Stands (strict : Bool) (p : ℕ) (st : List OpenTag) (d : TagDecoder) : Type 0 where
@@ -74,10 +75,10 @@ module _ (es ps : List ℕ) (shape : good_shape es ps ≡ true) (strict : Bool) 
 
   -- the End of the innermost is the answer, and the others stand
   pub ends : {d : TagDecoder} → Stands strict p (st ++ (x ∷ [])) d
-      → (d' : TagDecoder) × (decode es ps d s ≡ gives (answer.Event (event.End (end_for x))) 0 d') × Stands strict p st d'
+      → (d' : TagDecoder) × (decode es ps d s ≡ gives (Ok (answer.Event (event.End (end_for x)))) 0 d') × Stands strict p st d'
   ends {d} a = go (dec_le a.k (length st))
     where
-      go : Dec (a.k ≤ length st) → (d' : TagDecoder) × (decode es ps d s ≡ gives (answer.Event (event.End (end_for x))) 0 d') × Stands strict p st d'
+      go : Dec (a.k ≤ length st) → (d' : TagDecoder) × (decode es ps d s ≡ gives (Ok (answer.Event (event.End (end_for x)))) 0 d') × Stands strict p st d'
       go (yes h) =
           let b = a.settled in
           let k = a.k in

@@ -2,19 +2,18 @@
 -- 8. Assumes nothing.
 use Prim.Native.Nat.{ℕ, zero, suc, ◌+◌, ◌-◌, ◌*◌, ◌^◌, ◌≤◌, ◌<◌}
 use mathlib.Core.Path.{◌≡◌, refl, ap, ◌∙◌}
-use mathlib.Core.List.{List, ◌++◌, append-nil}
+use mathlib.Core.List.{List, ◌++◌}
 use native.Mathlib.Omega.{arith}
 use borrow.Author.Tests.{le-ltb, ne_eqb, lt-leb}
 use lib.Dec.{ltb}
-use lib.ListN.{length, take, drop, length-append, length-drop, drop_of_length-le}
+use lib.ListN.{length, take, drop, length-append, length-drop}
 use lib.Seq.{paste, take_all, take_at}
+use native.Mathlib.Nat.{div-one}
+use Rattle.std.specs.Int.{w64, to_be_bytes}
 use Rattle.tools.specs.Answers.{Gives}
 use Rattle.tools.specs.Bytes.{be_bytes}
-use Rattle.tools.specs.Integer.{u64_to_arr}
 use Rattle.tools.specs.Vint.{vint_width, vint_bytes, as_vint, as_vint_with_length}
 use Rattle.tools.specs.declared.errors.ToolError.{ToolError}
-use Rattle.tools.specs.declared.vint.Written.{Written}
-use Rattle.tools.specs.declared.vint.Written.TheVariants as written
 use Rattle.tools.proofs.BigEndian.{length-be_bytes}
 use Rattle.tools.proofs.Cases.{least_written}
 use Rattle.tools.proofs.Least.{least}
@@ -22,6 +21,7 @@ use Rattle.tools.proofs.Rfc8794.{least_below_lem}
 use Rattle.tag_writer.specs.Document.{id_width, id_bytes, header_bytes}
 use Rattle.tag_writer.proofs.PutLaws.{paste_both}
 use Rattle.tag_writer.proofs.WidthLaws.{id_length_lem, header_length_lem}
+use Rattle.std.specs.Prelude.{Err, Ok, Result}
 
 -- two parts of known lengths
 pub two_puts : (out o1 o2 a b : List ℕ) (at la lb : ℕ) → length a ≡ la → length b ≡ lb → at + (la + lb) ≤ length out
@@ -37,16 +37,13 @@ unfolding be_bytes
 lowest_last zero k n = let e : 0 + k ≡ k = omega arith in rw e
 lowest_last (suc j) k n = let e : suc j + k ≡ suc (j + k) = omega arith in rw e (lowest_last j k n)
 
-module _ (x w : ℕ) (z o : List ℕ) (r : Written) (ew : w ≡ id_width x) (room : length z ≡ 8) (put : Gives r o (u64_to_arr x z)) where
+module _ (x w : ℕ) (o : List ℕ) (ew : w ≡ id_width x) (put : o ≡ to_be_bytes w64 x) where
   id_short : w ≤ 8
   id_short = omega (arith, (least (λ k. ltb x (2 ^ (8 * k))) 7 1).hi)
 
-  eight_bytes : o ≡ be_bytes 8 x ++ drop 8 z
-  unfolding u64_to_arr
-  eight_bytes = put.bytes ∙ rw (le-ltb (length z) 8 (omega arith))
-
   all_eight : o ≡ be_bytes 8 x
-  all_eight = eight_bytes ∙ ap (λ (l : List ℕ). be_bytes 8 x ++ l) (drop_of_length-le z {i = 8} (omega arith)) ∙ append-nil (be_bytes 8 x)
+  unfolding be_bytes
+  all_eight = put ∙ rw div-one refl
 
   pub id_last : drop (8 - w) o ≡ id_bytes x
   unfolding id_bytes
@@ -65,25 +62,25 @@ module _ (x w : ℕ) (z o : List ℕ) (r : Written) (ew : w ≡ id_width x) (roo
 pub size_short : (n : ℕ) → (1 ≤ vint_width n) × (vint_width n ≤ 8)
 size_short n = let l = least (λ L. ltb n (2 ^ (7 * L) - 1)) 7 1 in (l.lo, l.hi)
 
-module _ (n : ℕ) (z o : List ℕ) (r : Written) (small : n < 2 ^ 56) (room : length z ≡ 8) (put : Gives r o (as_vint n z)) where
-  written_so : as_vint n z ≡ (written.Length (vint_width n), vint_bytes (vint_width n) n ++ drop (vint_width n) z)
+module _ (n : ℕ) (z o : List ℕ) (r : Result ℕ ToolError) (small : n < 2 ^ 56) (room : length z ≡ 8) (put : Gives r o (as_vint n z)) where
+  written_so : as_vint n z ≡ (Ok (vint_width n), vint_bytes (vint_width n) n ++ drop (vint_width n) z)
   unfolding as_vint_with_length
   written_so =
       let w = vint_width n in
       least_written n z small
       ∙ rw (ne_eqb w 0 (λ e. omega (arith, (size_short n).0)), le-ltb 8 w (size_short n).1, lt-leb (2 ^ (7 * w)) n (least_below_lem n small), le-ltb (length z) w (omega (arith, (size_short n).1)))
 
-  pub size_answer : r ≡ written.Length (vint_width n)
-  size_answer = put.answer ∙ ap (λ (p : Written × List ℕ). p.0) written_so
+  pub size_answer : r ≡ Ok (vint_width n)
+  size_answer = put.answer ∙ ap (λ (p : Result ℕ ToolError × List ℕ). p.0) written_so
 
-  pub size_is : {w : ℕ} → r ≡ written.Length w → w ≡ vint_width n
+  pub size_is : {w : ℕ} → r ≡ Ok w → w ≡ vint_width n
   size_is {w} e = let a = size_answer in cc
 
-  pub size_never : {x : ToolError} → r ≡ written.Refused x → ⊥
+  pub size_never : {x : ToolError} → r ≡ Err x → ⊥
   size_never {x} e = let a = size_answer in let q : ◌≡◌ {A = ℕ} 0 1 = cc in omega arith
 
   pub size_bytes : o ≡ vint_bytes (vint_width n) n ++ drop (vint_width n) z
-  size_bytes = put.bytes ∙ ap (λ (p : Written × List ℕ). p.1) written_so
+  size_bytes = put.bytes ∙ ap (λ (p : Result ℕ ToolError × List ℕ). p.1) written_so
 
   pub size_first : take (vint_width n) (drop 0 o) ≡ vint_bytes (vint_width n) n
   size_first = ap (take (vint_width n)) size_bytes ∙ take_at (vint_bytes (vint_width n) n) (drop (vint_width n) z) (vint_width n) (length-be_bytes (vint_width n) (2 ^ (7 * vint_width n) + n))

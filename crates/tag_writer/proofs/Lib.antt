@@ -33,3 +33,4 @@ pub mod InRange
 pub mod NeedsMore
 pub mod RoundTrip
 pub mod ReadBackExamples
+pub mod Tests

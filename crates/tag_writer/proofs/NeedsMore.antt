@@ -13,6 +13,7 @@ use Rattle.decoder_rules.specs.declared.types.Answer.TheVariants as answer
 use Rattle.decoder_rules.specs.declared.types.TagDecoder.{TagDecoder}
 use Rattle.decoder_rules.proofs.Exits.{Admitted, no_byte}
 use Rattle.tag_writer.proofs.Standing.{standing, All, first_passes, decode_plain}
+use Rattle.std.specs.Prelude.{Ok}
 
 module _ (es ps : List ℕ) (good : good_shape es ps ≡ true) (strict b : Bool) (n : ℕ) (near : n ≤ 2 ^ 62) where
   abbrev last : TagDecoder
@@ -23,7 +24,7 @@ module _ (es ps : List ℕ) (good : good_shape es ps ≡ true) (strict b : Bool)
   first = first_passes es ps good strict b n 0 [] [] [] tt refl (omega arith) (omega arith) (omega arith)
 
   -- no byte: need more
-  pub needs_more_lem : decode es ps last [] ≡ gives (answer.NeedMore least_header) 0 last
+  pub needs_more_lem : decode es ps last [] ≡ gives (Ok (answer.NeedMore least_header)) 0 last
   unfolding move first_index
   needs_more_lem =
       decode_plain es ps last []

@@ -7,17 +7,17 @@ use native.Mathlib.Omega.{arith}
 use lib.ListN.{length, get_or, take, drop, length-map, get_or-map}
 use lib.Seq.{get_or-take, length-take-le}
 use Rattle.table.specs.Table.{table_of, parts_of, parts_in, path_of, range_of, same_part, same_path}
-use Rattle.table.specs.declared.types.Bound.TheVariants.{NotGiven}
 use Rattle.table.specs.declared.types.Path.{Path}
 use Rattle.table.specs.declared.types.PathPart.{PathPart}
 use Rattle.table.specs.declared.types.PathPart.TheVariants.{Id, Global}
 use Rattle.table.proofs.Entries.{path_of_lem}
 use Rattle.table.proofs.Same.{same_lengths, same_fails, same_next, same_end}
 use Rattle.tag_parse.specs.Header.{read_tag_id}
-use Rattle.tag_parse.specs.declared.types.ReadTagId.{ReadTagId}
 use Rattle.tag_writer.specs.Document.{id_width, id_bytes}
 use Rattle.tag_writer.specs.Write.{is_this_id, reads_back, anywhere, goes_in}
 use Rattle.tag_writer.proofs.WidthLaws.{id_length_lem}
+use Rattle.std.specs.Prelude.{None}
+use Rattle.tools.specs.declared.status.Status.{Status}
 
 -- ---- a single Global without bounds
 
@@ -27,12 +27,12 @@ and-true false = refl
 
 pub not_one : (path : List PathPart) → (length path ≡ 1 → ⊥) → false ≡ anywhere path
 unfolding anywhere
-not_one path h = sym (same_lengths path (Global NotGiven NotGiven ∷ []) h)
+not_one path h = sym (same_lengths path (Global None None ∷ []) h)
 
-pub one_part : (path : List PathPart) → length path ≡ 1 → same_part (get_or path 0 (Id 0)) (Global NotGiven NotGiven) ≡ anywhere path
+pub one_part : (path : List PathPart) → length path ≡ 1 → same_part (get_or path 0 (Id 0)) (Global None None) ≡ anywhere path
 unfolding anywhere same_path
 one_part [] h = absurd (omega arith)
-one_part (p ∷ []) h = sym (and-true (same_part p (Global NotGiven NotGiven)))
+one_part (p ∷ []) h = sym (and-true (same_part p (Global None None)))
 one_part (p ∷ q ∷ r) h = absurd (omega arith)
 
 -- ---- these IDs
@@ -79,6 +79,6 @@ module _ (es ps opened : List ℕ) (x : ℕ) (r : Path) (is : r ≡ range_of (ta
 -- ---- an ID
 
 module _ (x w : ℕ) (o : List ℕ) (ew : w ≡ id_width x) (last : o ≡ id_bytes x) where
-  pub reads_is : (r : ReadTagId) → r ≡ read_tag_id o → is_this_id x w r ≡ reads_back x
+  pub reads_is : (r : Status (ℕ × ℕ)) → r ≡ read_tag_id o → is_this_id x w r ≡ reads_back x
   unfolding reads_back
   reads_is r e = let l : length (id_bytes x) ≡ w = id_length_lem x ∙ sym ew in rw (l, e, last)

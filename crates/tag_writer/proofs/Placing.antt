@@ -13,7 +13,6 @@ use Rattle.basics.proofs.Bools.{both, and_both}
 use Rattle.basics.proofs.Every.{every_other, every_reversed}
 use Rattle.table.specs.Check.{only_ids}
 use Rattle.table.specs.Table.{Entry, path_of, same_path}
-use Rattle.table.specs.declared.types.Bound.TheVariants.{NotGiven}
 use Rattle.table.specs.declared.types.PathPart.{PathPart}
 use Rattle.table.specs.declared.types.PathPart.TheVariants.{Id, Global}
 use Rattle.table.proofs.Same.{path_same}
@@ -23,6 +22,7 @@ use Rattle.spec_util.specs.declared.types.OpenTag.{OpenTag}
 use Rattle.spec_util.proofs.StrictWalkByRfc.{walk_names_strictly}
 use Rattle.spec_util.proofs.WalkByRfc.{names_complete, accepted_where_named}
 use Rattle.tag_writer.specs.Write.{anywhere, goes_in}
+use Rattle.std.specs.Prelude.{None}
 
 -- the IDs of these masters
 abbrev pub ids_of : List OpenTag → List ℕ
@@ -46,7 +46,7 @@ pub record Named (path : List PathPart) (parents : List ℕ) : Type 0 where
   pub one_way : read_one_way path parents ≡ true
 
 -- a single Global without bounds names any parents
-by_global : (parents : List ℕ) → Named (Global NotGiven NotGiven ∷ []) parents
+by_global : (parents : List ℕ) → Named (Global None None ∷ []) parents
 unfolding in_bounds under_min over_max global_only_last read_one_way
 by_global parents = record { names = (parents, [], sym (append-nil parents), refl, refl); last = refl; one_way = refl }
 
@@ -73,18 +73,18 @@ pub goes_named : (t : List Entry) (parents : List ℕ) (x : ℕ) → goes_in t p
 unfolding goes_in anywhere
 goes_named t parents x g =
     ⊎_elim
-    (λ a. rw (path_same (path_of t x) (Global NotGiven NotGiven ∷ []) a) (by_global parents))
+    (λ a. rw (path_same (path_of t x) (Global None None ∷ []) a) (by_global parents))
     (λ i. rw (path_same (path_of t x) (map Id parents) i) (by_ids parents))
-    (either_of (same_path (path_of t x) (Global NotGiven NotGiven ∷ [])) (same_path (path_of t x) (map Id parents)) g)
+    (either_of (same_path (path_of t x) (Global None None ∷ [])) (same_path (path_of t x) (map Id parents)) g)
 
 -- at the top a path of IDs is the empty one
 pub at_top : (t : List Entry) (x : ℕ) → goes_in t [] x ≡ true → (path_of t x ≡ []) ⊎ (only_ids (path_of t x) ≡ false)
 unfolding goes_in anywhere only_ids every
 at_top t x g =
     ⊎_elim
-    (λ a. inr (ap only_ids (path_same (path_of t x) (Global NotGiven NotGiven ∷ []) a)))
+    (λ a. inr (ap only_ids (path_same (path_of t x) (Global None None ∷ []) a)))
     (λ i. inl (path_same (path_of t x) [] i))
-    (either_of (same_path (path_of t x) (Global NotGiven NotGiven ∷ [])) (same_path (path_of t x) []) g)
+    (either_of (same_path (path_of t x) (Global None None ∷ [])) (same_path (path_of t x) []) g)
 
 -- ---- masters of known size
 

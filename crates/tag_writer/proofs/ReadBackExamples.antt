@@ -18,9 +18,9 @@ use Rattle.tag_writer.specs.Counts.{children_in, element_counts, run_counts}
 use Rattle.tag_writer.specs.Items.{marks_of, run_of}
 use Rattle.tag_writer.specs.ReadBack.{is_taken}
 use Rattle.tag_writer.specs.Write.{write}
-use Rattle.tag_writer.specs.declared.types.Wrote.{Wrote}
-use Rattle.tag_writer.specs.declared.types.Wrote.TheVariants.{Written}
 use Rattle.tag_writer.proofs.Computing.{writer_computes}
+use Rattle.std.specs.Prelude.{Ok, Result}
+use Rattle.tag_writer.specs.declared.types.WriteError.{WriteError}
 
 -- ---- the table
 
@@ -72,11 +72,11 @@ zero_in_text = record { items = 3 ∷ 0xA5 ∷ 0 ∷ 2 ∷ []; vals = 0x6D ∷ 0
 abbrev long_id : Case
 long_id = record { items = 1 ∷ 0x0812345678 ∷ 0 ∷ 8 ∷ []; vals = 0 ∷ 0 ∷ 0 ∷ 0 ∷ 0 ∷ 0 ∷ 0 ∷ 5 ∷ [] }
 
-abbrev written : Case → Wrote × List ℕ
+abbrev written : Case → Result ℕ WriteError × List ℕ
 written c = write entries parts c.items c.vals (replicate 20 0)
 
 -- all three are written
-pub written_so : ◌≡◌ {A = List Wrote} (map (λ c. (written c).0) (two_feeds ∷ zero_in_text ∷ long_id ∷ [])) (Written 14 ∷ Written 4 ∷ Written 7 ∷ [])
+pub written_so : ◌≡◌ {A = List (Result ℕ WriteError)} (map (λ c. (written c).0) (two_feeds ∷ zero_in_text ∷ long_id ∷ [])) (Ok 14 ∷ Ok 4 ∷ Ok 7 ∷ [])
 unfolding writer_computes
 written_so = refl
 

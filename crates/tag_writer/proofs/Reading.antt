@@ -15,8 +15,6 @@ use Rattle.basics.proofs.Bools.{both}
 use Rattle.table.specs.Check.{check_table, only_ids}
 use Rattle.table.specs.Shape.{good_shape}
 use Rattle.table.specs.Table.{Entry, table_of, data_type_of, path_of, same_path, is_master, is_typed}
-use Rattle.table.specs.declared.types.Bound.TheVariants.{NotGiven}
-use Rattle.table.specs.declared.types.Checked.TheVariants.{BadShape, Passed}
 use Rattle.table.specs.declared.types.PathPart.TheVariants.{Id, Global}
 use Rattle.table.specs.declared.types.TagDataType.{TagDataType}
 use Rattle.table.specs.declared.types.TagDataType.TheVariants as type
@@ -50,6 +48,9 @@ use Rattle.tag_writer.proofs.Placing.{ids_of, either_of}
 use Rattle.tag_writer.proofs.Standing.{standing, All, all_other, all_more, Reaching, reaching_less}
 use Rattle.tag_writer.proofs.Telling.{TopKnown, started, ended, held, Tells, nothing, tells_more, tells_step}
 use Rattle.tag_writer.proofs.ValueBack.{Fits, value_told, value_back, value_short, value_typed, not_numeric}
+use Rattle.std.specs.Prelude.{Err, None, Ok, Result, ⊤}
+use Rattle.table.specs.declared.types.TableError.TheVariants as fault
+use Rattle.table.specs.declared.types.TableError.{TableError}
 
 -- ---- the events of a document that begins at place p
 
@@ -149,7 +150,7 @@ none_more : (st : List OpenTag) → st ≡ [] → once_more st ≡ []
 unfolding counted_last
 none_more st e = ap once_more e
 
-module _ (es ps : List ℕ) (passed : check_table es ps ≡ Passed) (strict : Bool) where
+module _ (es ps : List ℕ) (passed : check_table es ps ≡ (Ok tt)) (strict : Bool) where
   abbrev t : List Entry
   t = table_of es ps
 
@@ -157,7 +158,7 @@ module _ (es ps : List ℕ) (passed : check_table es ps ≡ Passed) (strict : Bo
   pub shape : good_shape es ps ≡ true
   shape = answered es ps (λ q. no (sym passed ∙ q))
     where
-      no : Passed ≡ BadShape → ⊥
+      no : ◌≡◌ {A = Result ⊤ TableError} (Ok tt) (Err fault.BadShape) → ⊥
       no e = let z : ◌≡◌ {A = ℕ} 0 1 = cc in omega arith
 
   -- ---- a value
@@ -215,14 +216,14 @@ module _ (es ps : List ℕ) (passed : check_table es ps ≡ Passed) (strict : Bo
   -- a master goes where its path of IDs says, so not deeper than 16
   master_path : (x : ℕ) (st : List OpenTag) → is_master (data_type_of t x) ≡ true → goes_in t (ids_of st) x ≡ true → (only_ids (path_of t x) ≡ true) × (length st ≤ 16)
   unfolding goes_in anywhere only_ids every
-  master_path x st m g = (ids, short (either_of (same_path (path_of t x) (Global NotGiven NotGiven ∷ [])) (same_path (path_of t x) (map Id (ids_of st))) g))
+  master_path x st m g = (ids, short (either_of (same_path (path_of t x) (Global None None ∷ [])) (same_path (path_of t x) (map Id (ids_of st))) g))
     where
       ids : only_ids (path_of t x) ≡ true
       ids = master_of_ids_lem t (passed_gives es ps passed) x (master_is (data_type_of t x) m)
 
-      short : (same_path (path_of t x) (Global NotGiven NotGiven ∷ []) ≡ true) ⊎ (same_path (path_of t x) (map Id (ids_of st)) ≡ true) → length st ≤ 16
+      short : (same_path (path_of t x) (Global None None ∷ []) ≡ true) ⊎ (same_path (path_of t x) (map Id (ids_of st)) ≡ true) → length st ≤ 16
       short (inl a) =
-          let e : only_ids (Global NotGiven NotGiven ∷ []) ≡ true = ap only_ids (sym (path_same (path_of t x) (Global NotGiven NotGiven ∷ []) a)) ∙ ids in
+          let e : only_ids (Global None None ∷ []) ≡ true = ap only_ids (sym (path_same (path_of t x) (Global None None ∷ []) a)) ∙ ids in
           absurd (false≢true e)
       short (inr b) =
           let e = ap length (path_same (path_of t x) (map Id (ids_of st)) b) in

@@ -15,12 +15,10 @@ use Rattle.tools.specs.Bytes.{Octets}
 use Rattle.table.specs.Check.{check_table}
 use Rattle.table.specs.Shape.{good_shape}
 use Rattle.table.specs.Table.{table_of}
-use Rattle.table.specs.declared.types.Checked.{Checked}
-use Rattle.table.specs.declared.types.Checked.TheVariants.{BadShape, Passed, Fault}
 use Rattle.spec_util.specs.declared.types.OpenTag.{OpenTag}
 use Rattle.decoder_rules.specs.Deciding.{least_header}
 use Rattle.decoder_rules.specs.EndOfInput.{finish, close_all, end_of_input, ended_or, decode_eof}
-use Rattle.decoder_rules.specs.Moving.{gives, move, decode}
+use Rattle.decoder_rules.specs.Moving.{gives, decode}
 use Rattle.decoder_rules.specs.Record.{with_settings, counted_last, fresh}
 use Rattle.decoder_rules.specs.Settings.{reading}
 use Rattle.decoder_rules.specs.declared.types.Answer.TheVariants as answer
@@ -34,8 +32,6 @@ use Rattle.tag_writer.specs.Items.{Mark, start, end, datum, marks_of, matched, r
 use Rattle.tag_writer.specs.ReadBack.{part, said_value, said, said_counts, is_taken, IsReadAs}
 use Rattle.tag_writer.specs.Write.{good_run, whole_items, most_items, is_passed, write}
 use Rattle.tag_writer.specs.declared.types.WriteError.TheVariants.{TableFails, TooManyItems, Unmatched, WrongItem, OutputTooShort}
-use Rattle.tag_writer.specs.declared.types.Wrote.{Wrote}
-use Rattle.tag_writer.specs.declared.types.Wrote.TheVariants.{Written, Refused}
 use Rattle.tag_writer.proofs.Children.{times_more}
 use Rattle.tag_writer.proofs.Ends.{Stands, stands_clear}
 use Rattle.tag_writer.proofs.InRange.{FitsMarks, all_taken, fits_run, marks_fit}
@@ -46,6 +42,10 @@ use Rattle.tag_writer.proofs.Reading.{range_at, element_events, run_events, Ran,
 use Rattle.tag_writer.proofs.Standing.{standing, fresh_stands, All}
 use Rattle.tag_writer.proofs.Telling.{Tells, tells_calls}
 use Rattle.tag_writer.proofs.ValueBack.{value_told}
+use Rattle.std.specs.Prelude.{Err, Ok, Result, ⊤}
+use Rattle.table.specs.declared.types.TableError.{TableError}
+use Rattle.tag_writer.specs.declared.types.WriteError.{WriteError}
+use Rattle.table.specs.declared.types.TableError.TheVariants as fault
 
 -- ---- the events say the marks
 
@@ -126,7 +126,7 @@ module _ (es ps : List ℕ) (good : good_shape es ps ≡ true) (strict b : Bool)
   last = standing strict b n [] []
 
   -- the end of input, where no byte is left: the finish
-  pub finishes : (decode_eof es ps last []).answer ≡ answer.Finished
+  pub finishes : (decode_eof es ps last []).answer ≡ Ok answer.Finished
   unfolding decode_eof end_of_input close_all finish every first_index
   finishes = ap (λ (r : Decoded). (ended_or (table_of es ps) [] r r.answer).answer) (needs_more_lem es ps good strict b n near)
 
@@ -137,15 +137,15 @@ module _ (es ps : List ℕ) (good : good_shape es ps ≡ true) (strict b : Bool)
 pub record ToldAll (strict : Bool) (es ps : List ℕ) (doc : Run) : Type 0 where
   pub after : TagDecoder
   pub tells : Tells es ps (run_events 0 doc) 0 (reading fresh strict) (run_bytes doc) 0 after []
-  pub more : decode es ps after [] ≡ gives (answer.NeedMore least_header) 0 after
-  pub finish : (decode_eof es ps after []).answer ≡ answer.Finished
+  pub more : decode es ps after [] ≡ gives (Ok (answer.NeedMore least_header)) 0 after
+  pub finish : (decode_eof es ps after []).answer ≡ Ok answer.Finished
 
 none_times : (n : ℕ) → times_more n [] ≡ []
 unfolding times_more counted_last
 none_times zero = refl
 none_times (suc n) = none_times n
 
-module _ (strict : Bool) (es ps : List ℕ) (passed : check_table es ps ≡ Passed) (ms : List Mark) (few : length ms ≤ most_items) (match : matched [] ms ≡ true)
+module _ (strict : Bool) (es ps : List ℕ) (passed : check_table es ps ≡ (Ok tt)) (ms : List Mark) (few : length ms ≤ most_items) (match : matched [] ms ≡ true)
     (good : good_run (table_of es ps) [] (run_of ms) ≡ true) (fits : FitsMarks ms) (taken : every (is_taken strict) ms ≡ true) where
   abbrev doc : Run
   doc = run_of ms
@@ -200,21 +200,21 @@ module _ (strict : Bool) (es ps : List ℕ) (passed : check_table es ps ≡ Pass
 
 -- what holds where n bytes are written
 pub record IsWritten (es ps items vals out : List ℕ) (n : ℕ) : Type 0 where
-  pub passed : check_table es ps ≡ Passed
+  pub passed : check_table es ps ≡ Ok tt
   pub few : length (marks_of vals items) ≤ most_items
   pub match : matched [] (marks_of vals items) ≡ true
   pub good : good_run (table_of es ps) [] (run_of (marks_of vals items)) ≡ true
   pub size : n ≡ size_of_run (run_of (marks_of vals items))
   pub bytes : (write es ps items vals out).1 ≡ run_bytes (run_of (marks_of vals items)) ++ drop n out
 
-is_passed_lem : (c : Checked) → is_passed c ≡ true → c ≡ Passed
-is_passed_lem BadShape e = absurd (false≢true e)
-is_passed_lem Passed e = refl
-is_passed_lem (Fault r i) e = absurd (false≢true e)
+is_passed_lem : (c : Result ⊤ TableError) → is_passed c ≡ true → c ≡ Ok tt
+is_passed_lem (Err fault.BadShape) e = absurd (false≢true e)
+is_passed_lem (Ok _) e = refl
+is_passed_lem (Err (fault.Fault r i)) e = absurd (false≢true e)
 
 module _ (es ps items vals out : List ℕ) where
   -- it holds where the writer says so
-  pub is_written : (n : ℕ) → (write es ps items vals out).0 ≡ Written n → IsWritten es ps items vals out n
+  pub is_written : (n : ℕ) → (write es ps items vals out).0 ≡ Ok n → IsWritten es ps items vals out n
   unfolding write
   is_written n e =
       go (is_passed (check_table es ps)) refl (leb (length (marks_of vals items)) most_items) refl (matched [] (marks_of vals items)) refl
@@ -225,8 +225,8 @@ module _ (es ps items vals out : List ℕ) where
 
       go : (a : Bool) → is_passed (check_table es ps) ≡ a → (b : Bool) → leb (length (marks_of vals items)) most_items ≡ b → (c : Bool) → matched [] (marks_of vals items) ≡ c
           → (d : Bool) → (whole_items items && good_run (table_of es ps) [] (run_of (marks_of vals items))) ≡ d → (f : Bool) → leb (size_of_run (run_of (marks_of vals items))) (length out) ≡ f
-          → (cond {A = Wrote × List ℕ} a (cond b (cond c (cond d (cond f (Written (size_of_run (run_of (marks_of vals items))), run_bytes (run_of (marks_of vals items)) ++ drop (size_of_run (run_of (marks_of vals items))) out)
-          (Refused OutputTooShort, out)) (Refused WrongItem, out)) (Refused Unmatched, out)) (Refused TooManyItems, out)) (Refused TableFails, out)).0 ≡ Written n
+          → (cond {A = Result ℕ WriteError × List ℕ} a (cond b (cond c (cond d (cond f (Ok (size_of_run (run_of (marks_of vals items))), run_bytes (run_of (marks_of vals items)) ++ drop (size_of_run (run_of (marks_of vals items))) out)
+          (Err OutputTooShort, out)) (Err WrongItem, out)) (Err Unmatched, out)) (Err TooManyItems, out)) (Err TableFails, out)).0 ≡ Ok n
           → IsWritten es ps items vals out n
       go true ea true eb true ec true ed true ef e =
           let k : size_of_run (run_of (marks_of vals items)) ≡ n = cc in
@@ -245,13 +245,13 @@ module _ (es ps items vals out : List ℕ) where
       go false ea b eb c ec d ed f ef e = let z : ◌≡◌ {A = ℕ} 0 1 = cc in never z
 
   -- the calls on what is written, in either mode where its items are taken so
-  pub written_told : (strict : Bool) → Octets vals → (n : ℕ) → (write es ps items vals out).0 ≡ Written n → every (is_taken strict) (marks_of vals items) ≡ true → ToldAll strict es ps (run_of (marks_of vals items))
+  pub written_told : (strict : Bool) → Octets vals → (n : ℕ) → (write es ps items vals out).0 ≡ Ok n → every (is_taken strict) (marks_of vals items) ≡ true → ToldAll strict es ps (run_of (marks_of vals items))
   written_told strict byte n e taken =
       let w = is_written n e in
       document_told strict es ps w.passed (marks_of vals items) w.few w.match w.good (marks_fit vals byte items) taken
 
   -- what is written is read back, in either mode where its items are taken so
-  pub read_back_in : (strict : Bool) → Octets vals → (n : ℕ) → (write es ps items vals out).0 ≡ Written n → every (is_taken strict) (marks_of vals items) ≡ true
+  pub read_back_in : (strict : Bool) → Octets vals → (n : ℕ) → (write es ps items vals out).0 ≡ Ok n → every (is_taken strict) (marks_of vals items) ≡ true
       → IsReadAs strict es ps (take n (write es ps items vals out).1) (marks_of vals items)
   read_back_in strict byte n e taken =
       let w = is_written n e in
@@ -262,7 +262,7 @@ module _ (es ps items vals out : List ℕ) where
       rw front (document_read strict es ps w.passed ms w.few w.match w.good (marks_fit vals byte items) taken)
 
   -- as ported, which a fresh decoder is, whatever the items
-  pub read_back : Octets vals → (n : ℕ) → (write es ps items vals out).0 ≡ Written n → IsReadAs false es ps (take n (write es ps items vals out).1) (marks_of vals items)
+  pub read_back : Octets vals → (n : ℕ) → (write es ps items vals out).0 ≡ Ok n → IsReadAs false es ps (take n (write es ps items vals out).1) (marks_of vals items)
   read_back byte n e = read_back_in false byte n e (all_taken (marks_of vals items))
 
 -- the ported mode is that of a fresh decoder, settings as at first

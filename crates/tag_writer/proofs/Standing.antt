@@ -31,6 +31,8 @@ use Rattle.decoder_rules.specs.declared.types.TagDecoder.{TagDecoder}
 use Rattle.decoder_rules.specs.declared.types.WaitingEnd.{WaitingEnd}
 use Rattle.decoder_rules.proofs.Exits.{all_masters, closes as all-close, Admitted, Exit, hands_out as hands-out-exit, closes_full, exit_decides}
 use Rattle.decoder_rules.proofs.GoodState.{is_good_open, GoodState, is_good_state}
+use Rattle.std.specs.Prelude.{Ok, Result}
+use Rattle.decoder_rules.specs.declared.types.DecodeError.{DecodeError}
 
 -- ---- the record
 
@@ -189,7 +191,7 @@ module _ (test : OpenTag → Bool) where
 -- ---- a call
 
 -- a call whose decision has no note
-pub decode_plain : (es ps : List ℕ) (d : TagDecoder) (s : List ℕ) {a : Action} → Exit es ps d s (plain a) → decode es ps d s ≡ move d a
+pub decode_plain : (es ps : List ℕ) (d : TagDecoder) (s : List ℕ) {a : Result Action DecodeError} → Exit es ps d s (plain a) → decode es ps d s ≡ move d a
 unfolding apply noted
 decode_plain es ps d s x = ap (apply ps d) (sym (exit_decides es ps d s x))
 
@@ -197,12 +199,12 @@ decode_plain es ps d s x = ap (apply ps d) (sym (exit_decides es ps d s x))
 module _ (es ps : List ℕ) (strict b : Bool) (p : ℕ) (st : List OpenTag) (w : WaitingEnd) (ws : List WaitingEnd) (s : List ℕ)
     (first : Admitted es ps (standing strict b p st (w ∷ ws)) s) (few : length ws < 32) where
   -- and the others go on waiting
-  pub hands_out : decode es ps (standing strict b p st (w ∷ ws)) s ≡ gives (answer.Event (event.End w)) 0 (standing strict b p st ws)
+  pub hands_out : decode es ps (standing strict b p st (w ∷ ws)) s ≡ gives (Ok (answer.Event (event.End w))) 0 (standing strict b p st ws)
   unfolding move handed_out with_waiting
   hands_out =
       let m : suc (length ws) - 1 ≡ length ws = omega arith in
       decode_plain es ps (standing strict b p st (w ∷ ws)) s (hands-out-exit first (omega arith))
-      ∙ ap (gives (answer.Event (event.End w)) 0) (made_same strict b p refl refl (filled_shift no_end (w ∷ ws) (omega arith)) m)
+      ∙ ap (gives (Ok (answer.Event (event.End w))) 0) (made_same strict b p refl refl (filled_shift no_end (w ∷ ws) (omega arith)) m)
 
 -- the outermost master that is full closes, and all above it; x is the innermost
 module _ (es ps : List ℕ) (strict b : Bool) (p : ℕ) (st : List OpenTag) (x : OpenTag) (s : List ℕ)
@@ -227,7 +229,7 @@ module _ (es ps : List ℕ) (strict b : Bool) (p : ℕ) (st : List OpenTag) (x :
   all_length : length all ≡ length st + 1
   all_length = length-append st (x ∷ [])
 
-  close_exit : Exit es ps before_close s (plain (act.Close (step3 before_close)))
+  close_exit : Exit es ps before_close s (plain (Ok (act.Close (step3 before_close))))
   close_exit =
       let good : all_masters (table_of es ps) (drop (step3 before_close) (opens before_close)) ≡ true =
       rw (stands_opens strict b p all []) (every_drop (λ (m : OpenTag). is_master (data_type_of (table_of es ps) m.id)) (first_index (is_full p) all) all masters) in
@@ -251,6 +253,6 @@ module _ (es ps : List ℕ) (strict b : Bool) (p : ℕ) (st : List OpenTag) (x :
 
   -- its End is the answer, and the Ends of the others that close wait
   pub closes : decode es ps before_close s
-      ≡ gives (answer.Event (event.End (end_for x))) 0 (standing strict b p (take closes_at st) (map end_for (reverse (drop closes_at st))))
+      ≡ gives (Ok (answer.Event (event.End (end_for x)))) 0 (standing strict b p (take closes_at st) (map end_for (reverse (drop closes_at st))))
   unfolding move
   closes = decode_plain es ps before_close s close_exit ∙ rw (is_step3, ends_are, closed_is)

@@ -14,6 +14,7 @@ use Rattle.decoder_rules.specs.declared.types.Event.{Event}
 use Rattle.decoder_rules.specs.declared.types.Event.TheVariants as handed
 use Rattle.decoder_rules.specs.declared.types.TagDecoder.{TagDecoder}
 use Rattle.decoder_rules.specs.declared.types.WaitingEnd.{WaitingEnd}
+use Rattle.std.specs.Prelude.{Ok}
 
 -- the innermost of the record's open masters has a known size, and stands on k others
 pub record TopKnown (k : ℕ) (d : TagDecoder) : Type 0 where
@@ -33,7 +34,7 @@ pub data Shows : ℕ → Event → ℕ → TagDecoder → Type 0 where
 pub data Tells (es ps : List ℕ) : List Event → ℕ → TagDecoder → List ℕ → ℕ → TagDecoder → List ℕ → Type 0 where
   nothing : {k : ℕ} {d : TagDecoder} {s : List ℕ} → Tells es ps [] k d s k d s
   next : {i j k : ℕ} {e : Event} {evs : List Event} {n : ℕ} {d d1 d2 : TagDecoder} {s rest : List ℕ}
-      → decode es ps d s ≡ gives (answer.Event e) n d1 → Shows i e j d1 → Tells es ps evs j d1 (drop n s) k d2 rest → Tells es ps (e ∷ evs) i d s k d2 rest
+      → decode es ps d s ≡ gives (Ok (answer.Event e)) n d1 → Shows i e j d1 → Tells es ps evs j d1 (drop n s) k d2 rest → Tells es ps (e ∷ evs) i d s k d2 rest
 
 -- one run of calls after the other
 pub tells_more : {es ps : List ℕ} {i j k : ℕ} {evs more : List Event} {d d' d'' : TagDecoder} {s s' s'' : List ℕ}
@@ -43,7 +44,7 @@ tells_more (next c h a) b = next c h (tells_more a b)
 
 -- one call before others
 pub tells_step : {es ps : List ℕ} {i j k : ℕ} {e : Event} {evs : List Event} {n : ℕ} {d d1 d2 : TagDecoder} {s s1 rest : List ℕ}
-    → decode es ps d s ≡ gives (answer.Event e) n d1 → Shows i e j d1 → drop n s ≡ s1 → Tells es ps evs j d1 s1 k d2 rest → Tells es ps (e ∷ evs) i d s k d2 rest
+    → decode es ps d s ≡ gives (Ok (answer.Event e)) n d1 → Shows i e j d1 → drop n s ≡ s1 → Tells es ps evs j d1 s1 k d2 rest → Tells es ps (e ∷ evs) i d s k d2 rest
 tells_step {es} {ps} {i} {j} {k} {evs} {n} {d1} {d2} {s} {s1} {rest} c h q a = let b : Tells es ps evs j d1 (drop n s) k d2 rest = rw q a in next c h b
 
 -- these calls answer these events and then need m bytes more, and leave this record and these bytes
@@ -54,7 +55,7 @@ pub record Answers (c : Calls) (evs : List Event) (m : ℕ) (d : TagDecoder) (re
 
 -- so a run of calls goes, where the call after the events needs more
 pub tells_calls : {es ps : List ℕ} {evs : List Event} {d d' : TagDecoder} {s s' : List ℕ} {i k m : ℕ} → Tells es ps evs i d s k d' s'
-    → decode es ps d' s' ≡ gives (answer.NeedMore m) 0 d' → Answers (decode_calls (suc (length evs)) es ps d s) evs m d' s'
+    → decode es ps d' s' ≡ gives (Ok (answer.NeedMore m)) 0 d' → Answers (decode_calls (suc (length evs)) es ps d s) evs m d' s'
 unfolding in_a_row
 tells_calls nothing e = rw e (record { told = refl; left = refl; rest_is = refl })
 tells_calls (next {e = x} c h a) e =

@@ -23,7 +23,6 @@ use Rattle.table.specs.Table.{is_master}
 use Rattle.tag_parse.specs.Header.{numeric, too_long}
 use Rattle.tag_parse.specs.Payload.{value_of}
 use Rattle.tag_parse.specs.declared.types.Range.{Range}
-use Rattle.tag_parse.specs.declared.types.ReadValue.TheVariants.{Value as Got}
 use Rattle.tag_parse.specs.declared.types.TagValue.{TagValue}
 use Rattle.tag_parse.specs.declared.types.TagValue.TheVariants as told
 use Rattle.tag_parse.proofs.Cases.{not_long}
@@ -33,6 +32,7 @@ use Rattle.tag_writer.specs.Document.{Value, unsigned, integer, text, binary, fl
 use Rattle.tag_writer.specs.ReadBack.{is_whole}
 use Rattle.tag_writer.specs.Write.{type_word, is_of_kind}
 use Rattle.tag_writer.proofs.WidthLaws.{unsigned_least, unsigned_holds, integer_least, integer_holds, integer_short}
+use Rattle.std.specs.Prelude.{Ok}
 
 -- ---- the kind
 
@@ -66,12 +66,12 @@ Fits wrong = Unit {0}
 -- ---- read back
 
 -- an unsigned number
-unsigned_back : (n : ℕ) (r : Range) → n < 2 ^ 64 → value_of false type.UnsignedInt (be_bytes (unsigned_width n) n) r ≡ Got (told.UnsignedInt n)
+unsigned_back : (n : ℕ) (r : Range) → n < 2 ^ 64 → value_of false type.UnsignedInt (be_bytes (unsigned_width n) n) r ≡ Ok (told.UnsignedInt n)
 unfolding value_of
 unsigned_back n r h = rw (be_bytes_lem (unsigned_width n) n (unsigned_holds n h))
 
 -- a signed number that is not 0
-integer_some : (z : ℤ) (r : Range) → mag z < 2 ^ 63 → value_of false type.Integer (be_bytes (integer_width z) (bits_of (8 * integer_width z) z)) r ≡ Got (told.Integer z)
+integer_some : (z : ℤ) (r : Range) → mag z < 2 ^ 63 → value_of false type.Integer (be_bytes (integer_width z) (bits_of (8 * integer_width z) z)) r ≡ Ok (told.Integer z)
 unfolding value_of integer_of
 integer_some z r h =
     let k = integer_width z in
@@ -82,24 +82,24 @@ integer_some z r h =
     rw (length-be_bytes k (bits_of (8 * k) z), ne_eqb _ _ no, be_bytes_lem k (bits_of (8 * k) z) (bits_lt (8 * k) z q g), bits_back (8 * k) z q g)
 
 -- a signed number
-integer_back : (z : ℤ) (r : Range) → mag z < 2 ^ 63 → value_of false type.Integer (integer_bytes z) r ≡ Got (told.Integer z)
+integer_back : (z : ℤ) (r : Range) → mag z < 2 ^ 63 → value_of false type.Integer (integer_bytes z) r ≡ Ok (told.Integer z)
 unfolding integer_bytes value_of integer_of
 integer_back (pos zero) r h = refl
 integer_back (pos (suc n)) r h = integer_some (pos (suc n)) r h
 integer_back (negsuc n) r h = integer_some (negsuc n) r h
 
 -- a float
-float_back : (b : ℕ) (r : Range) → b < 2 ^ 64 → value_of false type.Float (be_bytes 8 b) r ≡ Got (told.Float b)
+float_back : (b : ℕ) (r : Range) → b < 2 ^ 64 → value_of false type.Float (be_bytes 8 b) r ≡ Ok (told.Float b)
 unfolding value_of arr_to_f64
 float_back b r h = rw (length-be_bytes 8 b, be_bytes_lem 8 b h)
 
 -- a text
-text_back : (s : List ℕ) (r : Range) → is_text s ≡ true → value_of false type.Utf8 s r ≡ Got (told.Utf8 r)
+text_back : (s : List ℕ) (r : Range) → is_text s ≡ true → value_of false type.Utf8 s r ≡ Ok (told.Utf8 r)
 unfolding value_of
 text_back s r e = rw e
 
 -- bytes
-binary_back : (s : List ℕ) (r : Range) → value_of false type.Binary s r ≡ Got (told.Binary r)
+binary_back : (s : List ℕ) (r : Range) → value_of false type.Binary s r ≡ Ok (told.Binary r)
 unfolding value_of
 binary_back s r = refl
 
@@ -114,7 +114,7 @@ value_told wrong r = told.Raw r
 
 module _ (k : TagDataType) (r : Range) where
   -- as ported a payload reads back as its value
-  ported_back : (v : Value) → is_of_kind k v ≡ true → Fits v → value_of false k (payload v) r ≡ Got (value_told v r)
+  ported_back : (v : Value) → is_of_kind k v ≡ true → Fits v → value_of false k (payload v) r ≡ Ok (value_told v r)
   unfolding is_of_kind payload
   ported_back (unsigned n) e f = rw (type_is k 1 e) (unsigned_back n r f)
   ported_back (integer z) e f = rw (type_is k 2 e) (integer_back z r f)
@@ -135,7 +135,7 @@ module _ (k : TagDataType) (r : Range) where
 
 -- strictly too, where no text has a zero byte
 pub value_back : (strict : Bool) (k : TagDataType) (r : Range) (v : Value) → is_of_kind k v ≡ true → Fits v → (not strict || is_whole v) ≡ true
-    → r.end ≡ r.begin + length (payload v) → value_of strict k (payload v) r ≡ Got (value_told v r)
+    → r.end ≡ r.begin + length (payload v) → value_of strict k (payload v) r ≡ Ok (value_told v r)
 value_back false k r v e f w q = ported_back k r v e f
 value_back true k r v e f w q = sym (value_alike true k (payload v) r q (whole_payload k r v e w)) ∙ ported_back k r v e f
 

@@ -18,11 +18,11 @@ use Rattle.tag_writer.specs.Sizing.{run_fits, is_small, Sizable, stops, RunAt, R
 use Rattle.tag_writer.specs.Write.{reads_back, goes_in, is_of_kind, greatest_size, good_run, whole_items, is_passed, write}
 use Rattle.tag_writer.specs.declared.types.Sized.{Sized}
 use Rattle.tag_writer.specs.declared.types.WriteError.TheVariants.{TableFails, TooManyItems, Unmatched, WrongItem, OutputTooShort}
-use Rattle.tag_writer.specs.declared.types.Wrote.TheVariants.{Written, Refused}
 use Rattle.tag_writer.proofs.FlatLaws.{flat_good, flat_bytes}
 use Rattle.tag_writer.proofs.Lengths.{run_length}
 use Rattle.tag_writer.proofs.Marks.{matched_marks}
 use Rattle.tag_writer.proofs.Shapes.{marks_count}
+use Rattle.std.specs.Prelude.{Err, Ok}
 
 -- what is asked of each item makes its value small
 asked_small : (t : List Entry) (opened : List ℕ) (m : Mark) → asked t opened m ≡ true → is_small m ≡ true
@@ -46,12 +46,12 @@ module _ (es ps items vals out : List ℕ) where
   abbrev ms : List Mark
   ms = marks_of vals items
 
-  pub fails_40 : is_passed (check_table es ps) ≡ false → write es ps items vals out ≡ (Refused TableFails, out)
+  pub fails_40 : is_passed (check_table es ps) ≡ false → write es ps items vals out ≡ (Err TableFails, out)
   unfolding write
   fails_40 a = rw a
 
   module _ (a : is_passed (check_table es ps) ≡ true) where
-    pub fails_41 : 512 < length items / 4 → write es ps items vals out ≡ (Refused TooManyItems, out)
+    pub fails_41 : 512 < length items / 4 → write es ps items vals out ≡ (Err TooManyItems, out)
     unfolding write
     fails_41 h = rw (a, lt-leb (length ms) 512 (rw (marks_count vals items) h))
 
@@ -59,16 +59,16 @@ module _ (es ps items vals out : List ℕ) where
       small : leb (length ms) 512 ≡ true
       small = le-leb (length ms) 512 (rw (marks_count vals items) few)
 
-      pub fails_42 : matched [] ms ≡ false → write es ps items vals out ≡ (Refused Unmatched, out)
+      pub fails_42 : matched [] ms ≡ false → write es ps items vals out ≡ (Err Unmatched, out)
       unfolding write
       fails_42 m = rw (a, small, m)
 
       module _ (match : matched [] ms ≡ true) where
-        pub fails_words : (length items % 4 ≡ 0 → ⊥) → write es ps items vals out ≡ (Refused WrongItem, out)
+        pub fails_words : (length items % 4 ≡ 0 → ⊥) → write es ps items vals out ≡ (Err WrongItem, out)
         unfolding write
         fails_words n = rw (a, small, match, ne_eqb (length items % 4) 0 n)
 
-        pub fails_43 : all_asked (table_of es ps) [] ms ≡ false → write es ps items vals out ≡ (Refused WrongItem, out)
+        pub fails_43 : all_asked (table_of es ps) [] ms ≡ false → write es ps items vals out ≡ (Err WrongItem, out)
         unfolding write
         fails_43 e = rw (a, small, match, flat_good ms match (table_of es ps), e, and_no (whole_items items))
 
@@ -96,19 +96,19 @@ module _ (es ps items vals out : List ℕ) where
             good : good_run (table_of es ps) [] (run_of ms) ≡ s.fits
             good = flat_good ms match (table_of es ps) ∙ ap (λ (b : Bool). b && run_fits (run_of ms)) asks ∙ sym it.fits
 
-            pub fails_size : s.fits ≡ false → write es ps items vals out ≡ (Refused WrongItem, out)
+            pub fails_size : s.fits ≡ false → write es ps items vals out ≡ (Err WrongItem, out)
             unfolding write
             fails_size e = rw (a, small, match, all_words, good, e)
 
             module _ (fits : s.fits ≡ true) where
-              pub fails_44 : length out < s.size → write es ps items vals out ≡ (Refused OutputTooShort, out)
+              pub fails_44 : length out < s.size → write es ps items vals out ≡ (Err OutputTooShort, out)
               unfolding write
               fails_44 h = rw (a, small, match, all_words, good, fits, lt-leb (size_of_run (run_of ms)) (length out) (subst (λ (n : ℕ). length out < n) it.size h)) refl
 
               pub bytes_count : length (marks_bytes ms) ≡ s.size
               bytes_count = ap length (flat_bytes ms match) ∙ run_length (run_of ms) ∙ sym it.size
 
-              pub writes : s.size ≤ length out → write es ps items vals out ≡ (Written s.size, marks_bytes ms ++ drop (length (marks_bytes ms)) out)
+              pub writes : s.size ≤ length out → write es ps items vals out ≡ (Ok s.size, marks_bytes ms ++ drop (length (marks_bytes ms)) out)
               unfolding write
               writes h =
                   rw (a, small, match, all_words, good, fits, le-leb (size_of_run (run_of ms)) (length out) (subst (λ (n : ℕ). n ≤ length out) it.size h))

@@ -17,7 +17,6 @@ use Rattle.tools.proofs.ElementIds.{element_id_sound, id_marker}
 use Rattle.tools.proofs.Least.{least}
 use Rattle.table.specs.Check.{allowed_id, check_table}
 use Rattle.table.specs.Table.{Entry, table_of, data_type_of, is_typed}
-use Rattle.table.specs.declared.types.Checked.TheVariants.{Passed}
 use Rattle.table.proofs.Consequences.{own_entry}
 use Rattle.table.proofs.Entries.{for_every}
 use Rattle.table.proofs.Passed.{passed_gives}
@@ -27,6 +26,7 @@ use Rattle.basics.proofs.Bools.{and_both}
 use Rattle.tag_writer.specs.Document.{id_width, id_bytes}
 use Rattle.tag_writer.specs.Write.{reads_back}
 use Rattle.tag_writer.proofs.WidthLaws.{id_length_lem}
+use Rattle.std.specs.Prelude.{Ok}
 
 module _ (x : ℕ) (e : is_element_id x ≡ true) where
   abbrev L : ℕ
@@ -75,7 +75,7 @@ module _ (x : ℕ) (e : is_element_id x ≡ true) where
       rw (n, r) (and_both (eq-eqb x x refl) (eq-eqb L L refl))
 
 -- with a table that passed its check an ID that it has reads back
-pub passed_reads_back : (es ps : List ℕ) (x : ℕ) → check_table es ps ≡ Passed → is_typed (data_type_of (table_of es ps) x) ≡ true → reads_back x ≡ true
+pub passed_reads_back : (es ps : List ℕ) (x : ℕ) → check_table es ps ≡ Ok tt → is_typed (data_type_of (table_of es ps) x) ≡ true → reads_back x ≡ true
 unfolding allowed_id is_typed
 passed_reads_back es ps x c t =
     let own = own_entry (table_of es ps) x (λ u. true≢false (sym t ∙ ap is_typed u)) in

@@ -1,7 +1,7 @@
 -- Document 02, CR 2: "What is written decodes from a fresh decoder, settings as at first, to the same kinds, IDs and
 -- values, then the finish." Every End comes with the number of its master's children (CR 10), and what the strict
 -- reading (CR 11) takes of it decodes strictly too.
-use Rattle.std.specs.Prelude.{ℕ, suc, ◌-◌, Bool, true, not, ◌&&◌, ◌||◌, ◌≡◌, List, [], ◌∷◌, ◌++◌, map, length, take, drop}
+use Rattle.std.specs.Prelude.{ℕ, suc, ◌-◌, Bool, true, not, ◌&&◌, ◌||◌, ◌≡◌, List, [], ◌∷◌, ◌++◌, map, length, take, drop, Ok}
 use Rattle.tag_parse.specs.declared.types.Range.{Range}
 use Rattle.tag_parse.specs.declared.types.TagValue.{TagValue}
 use Rattle.tag_parse.specs.declared.types.TagValue.TheVariants as value
@@ -76,4 +76,4 @@ pub record IsReadAs (strict : Bool) (es ps : List ℕ) (w : List ℕ) (ms : List
   pub same : map (said w) events ≡ ms
   pub counts : said_counts events ≡ run_counts (run_of ms)
   pub all_read : (decode_calls (suc (length events)) es ps (reading fresh strict) w).rest ≡ []
-  pub finish : (decode_eof es ps (decode_calls (suc (length events)) es ps (reading fresh strict) w).left []).answer ≡ answer.Finished
+  pub finish : (decode_eof es ps (decode_calls (suc (length events)) es ps (reading fresh strict) w).left []).answer ≡ Ok answer.Finished

@@ -1,30 +1,28 @@
 -- Document 02, CR 2: what the writer answers and writes, and its refusals in their order.
-use Rattle.std.specs.Prelude.{ℕ, ◌%◌, Bool, true, false, cond, ◌&&◌, ◌||◌, List, [], ◌∷◌, ◌++◌, map, leb, eqb, length, drop}
+use Rattle.std.specs.Prelude.{ℕ, ◌%◌, Bool, true, false, cond, ◌&&◌, ◌||◌, List, [], ◌∷◌, ◌++◌, map, leb, eqb, length, drop, Err, None, Ok, Result, ⊤}
 use Rattle.utf8.specs.Rfc3629.{is_text}
 use Rattle.table.specs.Check.{check_table}
 use Rattle.table.specs.Table.{Entry, table_of, data_type_of, path_of, is_master, same_path}
-use Rattle.table.specs.declared.types.Bound.TheVariants.{NotGiven}
-use Rattle.table.specs.declared.types.Checked.{Checked}
-use Rattle.table.specs.declared.types.Checked.TheVariants.{BadShape, Passed, Fault}
 use Rattle.table.specs.declared.types.PathPart.{PathPart}
 use Rattle.table.specs.declared.types.PathPart.TheVariants.{Id, Global}
 use Rattle.table.specs.declared.types.TagDataType.{TagDataType}
 use Rattle.table.specs.declared.types.TagDataType.TheVariants as type
 use Rattle.tag_parse.specs.Header.{read_tag_id}
-use Rattle.tag_parse.specs.declared.types.ReadTagId.{ReadTagId}
-use Rattle.tag_parse.specs.declared.types.ReadTagId.TheVariants as id
 use Rattle.tag_writer.specs.Document.{Value, unsigned, integer, text, binary, float, wrong, Element, value, master, Run, none, then, payload, id_bytes, size_of_run, run_bytes}
 use Rattle.tag_writer.specs.Items.{marks_of, matched, run_of}
 use Rattle.tag_writer.specs.declared.types.WriteError.TheVariants.{TableFails, TooManyItems, Unmatched, WrongItem, OutputTooShort}
-use Rattle.tag_writer.specs.declared.types.Wrote.{Wrote}
-use Rattle.tag_writer.specs.declared.types.Wrote.TheVariants.{Written, Refused}
+use Rattle.tools.specs.declared.status.Status.{Status}
+use Rattle.table.specs.declared.types.TableError.{TableError}
+use Rattle.tag_writer.specs.declared.types.WriteError.{WriteError}
+use Rattle.table.specs.declared.types.TableError.TheVariants as fault
+use Rattle.tools.specs.declared.status.Status.TheVariants as status
 
 -- ---- 43: "wrong place, kind or value"
 
 -- whether what is read is the ID x, of n bytes
-abbrev pub is_this_id : ℕ → ℕ → ReadTagId → Bool
-is_this_id x n (id.NeedMore missing) = false
-is_this_id x n (id.TagId y m) = eqb y x && eqb m n
+abbrev pub is_this_id : ℕ → ℕ → Status (ℕ × ℕ) → Bool
+is_this_id x n (status.NeedMore missing) = false
+is_this_id x n (status.Complete (y, m)) = eqb y x && eqb m n
 
 -- whether the bytes of an ID read back as it
 unfoldable pub reads_back : ℕ → Bool
@@ -32,7 +30,7 @@ reads_back x = is_this_id x (length (id_bytes x)) (read_tag_id (id_bytes x))
 
 -- whether a path is "a single Global without bounds"
 unfoldable pub anywhere : List PathPart → Bool
-anywhere path = same_path path (Global NotGiven NotGiven ∷ [])
+anywhere path = same_path path (Global None None ∷ [])
 
 -- "An element goes only where its path of IDs says; one whose path is a single Global without bounds goes anywhere,
 -- other paths nowhere." The IDs of the open masters stand outermost first
@@ -86,14 +84,14 @@ abbrev pub most_items : ℕ
 most_items = 512
 
 -- whether a table passes its check
-abbrev pub is_passed : Checked → Bool
-is_passed BadShape = false
-is_passed Passed = true
-is_passed (Fault rule entry) = false
+abbrev pub is_passed : Result ⊤ TableError → Bool
+is_passed (Err fault.BadShape) = false
+is_passed (Ok _) = true
+is_passed (Err (fault.Fault rule entry)) = false
 
 -- the answer and the lent output after it, where es and ps are the lent table, items and vals what is to be written,
 -- and out the lent output before; refused "in this order, nothing written"
-unfoldable pub write : List ℕ → List ℕ → List ℕ → List ℕ → List ℕ → Wrote × List ℕ
+unfoldable pub write : List ℕ → List ℕ → List ℕ → List ℕ → List ℕ → Result ℕ WriteError × List ℕ
 write es ps items vals out =
     let ms = marks_of vals items in
     let r = run_of ms in
@@ -102,9 +100,9 @@ write es ps items vals out =
     (cond (matched [] ms)
     (cond (whole_items items && good_run (table_of es ps) [] r)
     (cond (leb (size_of_run r) (length out))
-    (Written (size_of_run r), run_bytes r ++ drop (size_of_run r) out)
-    (Refused OutputTooShort, out))
-    (Refused WrongItem, out))
-    (Refused Unmatched, out))
-    (Refused TooManyItems, out))
-    (Refused TableFails, out)
+    (Ok (size_of_run r), run_bytes r ++ drop (size_of_run r) out)
+    (Err OutputTooShort, out))
+    (Err WrongItem, out))
+    (Err Unmatched, out))
+    (Err TooManyItems, out))
+    (Err TableFails, out)

@@ -1,23 +1,21 @@
-// Refusal 43 but for the sizes of masters: "wrong place, kind or value".
+//! Refusal 43 but for the sizes of masters: "wrong place, kind or value".
 
 ghost use Rattle.std.specs.Prelude.{true, ◌&&◌, ◌||◌, ◌≡◌, [], map, ◌/◌, ◌≤◌, leb, eqb, length, take};
-ghost use Rattle.table.specs.Table.{table_of, parts_of, parts_in, same_bound, same_part, same_path};
-ghost use Rattle.table.specs.declared.types.Bound.TheVariants.{NotGiven};
+ghost use Rattle.table.specs.Table.{table_of, parts_of, parts_in, same_part, same_path};
 ghost use Rattle.table.specs.declared.types.PathPart.TheVariants.{Id};
 ghost use Rattle.tag_writer.specs.Document.{payload};
 ghost use Rattle.tag_writer.specs.Flat.{asked, all_asked};
 ghost use Rattle.tag_writer.specs.Items.{value_at, mark_of, marks_of, matched};
 ghost use Rattle.tag_writer.specs.Write.{reads_back, anywhere, goes_in, type_word, is_of_kind, greatest_size, most_items};
 
-use crate::items::{both, index, item_count, item_word, lies_in, small_enough};
+use crate::items::{index, item_count, item_word, lies_in, small_enough};
 use crate::types::MOST_ITEMS;
 use crate::widths::byte_width;
 use table::lookup::{get_path_by_id, get_tag_data_type, is_master};
 use table::parts::{path_length, path_part};
-use table::types::{Bound, Path, PathPart, TagDataType};
+use table::types::{Path, PathPart, TagDataType};
 use tag_parse::header::read_tag_id;
-use tag_parse::types::ReadTagId;
-use tools::integer::u64_to_arr;
+use tools::status::Status;
 use utf8::is_utf8;
 
 // Whether the bytes of an ID read back as it.
@@ -25,22 +23,10 @@ fn reads_back(id: u64) -> bool
     ensures { result ≡ reads_back id }
 {
     let width = byte_width(id, 1, 0);
-    let mut bytes = [0u8; 8];
-    u64_to_arr(id, &mut bytes);
-    let from = 8 - width;
-    match read_tag_id(&bytes[from..]) {
-        ReadTagId::NeedMore { missing: _ } => false,
-        ReadTagId::TagId { id: x, length: n } => both(x == id, n == width),
-    }
-}
-
-// Whether a bound is not given.
-fn not_given(b: Bound) -> bool
-    ensures { result ≡ same_bound b NotGiven }
-{
-    match b {
-        Bound::NotGiven => true,
-        Bound::Given(_) => false,
+    let bytes = id.to_be_bytes();
+    match read_tag_id(&bytes[8 - width..]) {
+        Status::NeedMore { .. } => false,
+        Status::Complete((x, n)) => x == id && n == width,
     }
 }
 
@@ -53,17 +39,17 @@ fn is_anywhere(parts: &[u64], path: Path) -> bool
     }
     match path_part(parts, path, 0) {
         PathPart::Id(_) => false,
-        PathPart::Global { min, max } => both(not_given(min), not_given(max)),
+        PathPart::Global { min, max } => min.is_none() && max.is_none(),
     }
 }
 
-// Whether a part is this ID.
+// Whether a part is this ID. With `matches!` and a guard the answer is not proved: its last arm does not say why.
 fn is_id(part: PathPart, id: u64) -> bool
     ensures { result ≡ same_part part (Id id) }
 {
     match part {
         PathPart::Id(x) => x == id,
-        PathPart::Global { min: _, max: _ } => false,
+        PathPart::Global { .. } => false,
     }
 }
 
@@ -75,12 +61,10 @@ fn is_stack(parts: &[u64], path: Path, ids: &[u64], depth: usize) -> bool
     if path_length(parts, path) != depth {
         return false;
     }
-    let mut i: usize = 0;
-    while i < depth {
+    for i in 0..depth {
         if !is_id(path_part(parts, path, i), ids[i]) {
             return false;
         }
-        i += 1;
     }
     true
 }
@@ -91,10 +75,7 @@ fn goes_in(entries: &[u64], parts: &[u64], ids: &[u64], depth: usize, id: u64) -
     ensures { result ≡ goes_in (table_of entries.now parts.now) (take depth ids.now) id }
 {
     let path = get_path_by_id(entries, parts, id);
-    if is_anywhere(parts, path) {
-        return true;
-    }
-    is_stack(parts, path, ids, depth)
+    is_anywhere(parts, path) || is_stack(parts, path, ids, depth)
 }
 
 // The number of a type in the table; 6 where there is none.
@@ -116,16 +97,11 @@ fn type_word(kind: TagDataType) -> u64
 fn is_number(kind: u64) -> bool
     ensures { result ≡ (eqb kind 1 || (eqb kind 2 || eqb kind 5)) }
 {
-    if kind == 1 {
-        return true;
-    }
-    if kind == 2 {
-        return true;
-    }
-    kind == 5
+    matches!(kind, 1 | 2 | 5)
 }
 
 // Whether a value is of the kind that the table gives its ID, and small enough; text is UTF-8.
+// One test after the other and no `&&`: a text is cut from the values only where its range is known to lie in them.
 #[tactic(auto, using(crate::proofs::AskLaws::answers_of_value))]
 fn good_value(want: TagDataType, values: &[u8], kind: u64, offset: u64, n: u64) -> bool
     ensures { result ≡ (is_of_kind want (value_at values.now kind offset n) && leb (length (payload (value_at values.now kind offset n))) greatest_size) }
@@ -153,6 +129,7 @@ fn good_value(want: TagDataType, values: &[u8], kind: u64, offset: u64, n: u64) 
 }
 
 // Whether one item is as refusal 43 asks, in the open masters of these IDs; a master's size is asked apart.
+// One test after the other and no `&&`: an End is asked nothing, and the kind chooses the last test.
 fn asked_item(
     entries: &[u64],
     parts: &[u64],
@@ -183,7 +160,7 @@ fn asked_item(
     good_value(want, values, kind, offset, n)
 }
 
-// Whether each item is as refusal 43 asks, in the masters that are open there.
+/// Whether each item is as refusal 43 asks, in the masters that are open there.
 pub fn all_asked(entries: &[u64], parts: &[u64], items: &[u64], values: &[u8]) -> bool
     requires { (length items.now / 4 ≤ most_items) × (matched [] (marks_of values.now items.now) ≡ true) }
     ensures { result ≡ all_asked (table_of entries.now parts.now) [] (marks_of values.now items.now) }
@@ -191,8 +168,7 @@ pub fn all_asked(entries: &[u64], parts: &[u64], items: &[u64], values: &[u8]) -
     let count = item_count(items);
     let mut open = [0u64; MOST_ITEMS];
     let mut depth: usize = 0;
-    let mut i: usize = 0;
-    while i < count {
+    for i in 0..count {
         let kind = item_word(items, i, 0);
         let id = item_word(items, i, 1);
         let offset = item_word(items, i, 2);
@@ -200,15 +176,15 @@ pub fn all_asked(entries: &[u64], parts: &[u64], items: &[u64], values: &[u8]) -
         if !asked_item(entries, parts, values, kind, id, offset, n, &open, depth) {
             return false;
         }
-        i += 1;
         if kind == 0 {
             open[depth] = id;
             depth += 1;
             continue;
         }
-        if kind == 6 {
-            depth -= 1;
+        if kind != 6 {
+            continue;
         }
+        depth -= 1;
     }
     true
 }

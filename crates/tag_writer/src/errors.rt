@@ -1,4 +1,4 @@
-// The refusals' numbers.
+//! The refusals' numbers.
 
 ghost use Rattle.std.specs.Prelude.{◌≡◌};
 ghost use Rattle.tag_writer.specs.Refusals.{error_number, number_and_place};
@@ -6,7 +6,7 @@ ghost use Rattle.tag_writer.specs.Refusals.{error_number, number_and_place};
 use crate::types::WriteError;
 use tools::errors::Refusal;
 
-// The number of a refusal.
+/// The number of a refusal.
 pub fn error_number(e: WriteError) -> u64
     ensures { result ≡ error_number e }
 {
@@ -19,7 +19,7 @@ pub fn error_number(e: WriteError) -> u64
     }
 }
 
-// The refusal's number and place.
+/// The refusal's number and place.
 pub fn number_and_place(e: WriteError) -> Refusal
     ensures { result ≡ number_and_place e }
 {

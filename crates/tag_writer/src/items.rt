@@ -1,6 +1,6 @@
-// One item of the list, read from its words.
+//! One item of the list, read from its words.
 
-ghost use Rattle.std.specs.Prelude.{◌&&◌, ◌≡◌, leb, ◌+◌, ◌*◌, ◌/◌, ◌≤◌, ◌<◌, length, get_or, take, drop};
+ghost use Rattle.std.specs.Prelude.{◌≡◌, leb, ◌+◌, ◌*◌, ◌/◌, ◌≤◌, ◌<◌, length, get_or, take, drop};
 ghost use Rattle.tag_writer.specs.Write.{greatest_size};
 ghost use Rattle.tools.specs.Bytes.{be_number};
 ghost use Rattle.tag_writer.specs.Document.{payload};
@@ -10,14 +10,14 @@ use crate::types::GREATEST_SIZE;
 use crate::widths::{integer_size, unsigned_size};
 use tools::integer::unsigned_of;
 
-// How many items there are.
+/// How many items there are.
 pub fn item_count(items: &[u64]) -> usize
     ensures { result ≡ length items.now / 4 }
 {
     items.len() / 4
 }
 
-// Word k of item at.
+/// Word k of item at.
 pub fn item_word(items: &[u64], at: usize, k: usize) -> u64
     requires { (at < length items.now / 4) × (k < 4) }
     ensures { result ≡ get_or items.now (4 * at + k) 0 }
@@ -33,25 +33,22 @@ fn eight(values: &[u8], from: usize, upto: usize) -> u64
     unsigned_of(&values[from..upto])
 }
 
-// A word as a place.
+/// A word as a place.
 pub fn index(word: u64) -> usize
     ensures { result ≡ word }
 {
     word as usize
 }
 
-// Whether a range lies in the values.
+/// Whether a range lies in the values.
 pub fn lies_in(values: &[u8], offset: u64, n: u64) -> bool
     ensures { result ≡ leb (offset + n) (length values.now) }
 {
     let from = index(offset);
-    if values.len() < from {
-        return false;
-    }
-    index(n) <= values.len() - from
+    from <= values.len() && index(n) <= values.len() - from
 }
 
-// How many bytes the payload of a value takes; 0 where there is no value.
+/// How many bytes the payload of a value takes; 0 where there is no value.
 pub fn value_size(values: &[u8], kind: u64, offset: u64, n: u64) -> u64
     ensures { result ≡ length (payload (value_at values.now kind offset n)) }
 {
@@ -80,14 +77,7 @@ pub fn value_size(values: &[u8], kind: u64, offset: u64, n: u64) -> u64
     0
 }
 
-// Whether both hold.
-pub fn both(a: bool, b: bool) -> bool
-    ensures { result ≡ (a && b) }
-{
-    if a { b } else { false }
-}
-
-// Whether a size may be written.
+/// Whether a size may be written.
 pub fn small_enough(n: u64) -> bool
     ensures { result ≡ leb n greatest_size }
 {

@@ -1,4 +1,4 @@
-// The writer: a list of Starts, Ends and values becomes an EBML document with every size filled in. Document 02, CR 2.
+//! The writer: a list of Starts, Ends and values becomes an EBML document with every size filled in.
 #![tactic(auto)]
 
 mod asking;

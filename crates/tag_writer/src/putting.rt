@@ -1,4 +1,4 @@
-// Bytes at a place of the lent output.
+//! Bytes at a place of the lent output.
 
 ghost use Rattle.std.specs.Prelude.{◌≡◌, ◌+◌, ◌^◌, ◌≤◌, ◌<◌, length, take, drop};
 ghost use Rattle.std.proofs.Math.Seq.{paste};
@@ -9,19 +9,14 @@ ghost use Rattle.tag_writer.specs.Items.{value_at};
 
 use crate::items::{index, value_size};
 use crate::widths::byte_width;
-use tools::integer::u64_to_arr;
-use tools::vint::{Written, as_vint};
+use tools::vint::as_vint;
 
-// The n bytes of values from a place on.
+/// The n bytes of values from a place on.
 pub fn put_part(values: &[u8], from: usize, n: usize, out: &mut [u8], at: usize)
     requires { (from + n ≤ length values.now) × (at + n ≤ length out.old) }
     ensures { out.new ≡ paste out.old at (take n (drop from values.now)) n }
 {
-    let mut i: usize = 0;
-    while i < n {
-        out[at + i] = values[from + i];
-        i += 1;
-    }
+    out[at..at + n].copy_from_slice(&values[from..from + n]);
 }
 
 // The bytes of an ID; the place after them.
@@ -30,9 +25,7 @@ fn put_id(id: u64, out: &mut [u8], at: usize) -> usize
     ensures { (result ≡ at + length (id_bytes id)) × (out.new ≡ paste out.old at (id_bytes id) (length (id_bytes id))) }
 {
     let width = byte_width(id, 1, 0);
-    let mut bytes = [0u8; 8];
-    u64_to_arr(id, &mut bytes);
-    put_part(&bytes, 8 - width, width, out, at);
+    put_part(&id.to_be_bytes(), 8 - width, width, out, at);
     at + width
 }
 
@@ -43,16 +36,16 @@ fn put_size(n: u64, out: &mut [u8], at: usize) -> usize
 {
     let mut bytes = [0u8; 8];
     match as_vint(n, &mut bytes) {
-        Written::Length(width) => {
+        Ok(width) => {
             put_part(&bytes, 0, width, out, at);
             at + width
         }
         // 8 bytes are room for n: this does not happen
-        Written::Refused(_) => at,
+        Err(_) => at,
     }
 }
 
-// The header of an element; the place after it.
+/// The header of an element; the place after it.
 pub fn put_header(id: u64, n: u64, out: &mut [u8], at: usize) -> usize
     requires { (n < 2 ^ 56) × (at + length (header_bytes id n) ≤ length out.old) }
     ensures { (result ≡ at + length (header_bytes id n)) × (out.new ≡ paste out.old at (header_bytes id n) (length (header_bytes id n))) }
@@ -61,8 +54,8 @@ pub fn put_header(id: u64, n: u64, out: &mut [u8], at: usize) -> usize
     put_size(n, out, middle)
 }
 
-// The payload of a value; the place after it. It is the end of the value's own bytes: a number's without the first
-// ones, which say no more of it. Where there is no value nothing is put.
+/// The payload of a value; the place after it. It is the end of the value's own bytes: a number's without the first
+/// ones, which say no more of it. Where there is no value nothing is put.
 pub fn put_value(values: &[u8], kind: u64, offset: u64, n: u64, out: &mut [u8], at: usize) -> usize
     requires { at + length (payload (value_at values.now kind offset n)) ≤ length out.old }
     ensures { (result ≡ at + length (payload (value_at values.now kind offset n)))
@@ -77,7 +70,7 @@ pub fn put_value(values: &[u8], kind: u64, offset: u64, n: u64, out: &mut [u8], 
     at + size
 }
 
-// A value with its header; the place after it.
+/// A value with its header; the place after it.
 pub fn put_datum(
     values: &[u8],
     kind: u64,

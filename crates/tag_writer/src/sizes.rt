@@ -1,13 +1,13 @@
-// "The size of a master is the sum of its children's sizes, and a child may be a master again": the size of one element
-// and the size of a run of children call each other; the items left fall. Each master's size is computed once, and kept
-// in a lent list at the place of its Start.
+//! "The size of a master is the sum of its children's sizes, and a child may be a master again": the size of one element
+//! and the size of a run of children call each other; the items left fall. Each master's size is computed once, and kept
+//! in a lent list at the place of its Start.
 
 ghost use Rattle.std.specs.Prelude.{true, ◌≡◌, ◌++◌, ◌/◌, ◌≤◌, length, drop};
 ghost use Rattle.tag_writer.specs.Document.{Element, Run};
 ghost use Rattle.tag_writer.specs.Items.{marks_of, element_marks, run_marks};
 ghost use Rattle.tag_writer.specs.Sizing.{Sizable, RunAt, ElementAt, RunSized, ElementSized, SizesIn, KeptBelow, stops};
 
-use crate::items::{both, item_count, item_word, small_enough, value_size};
+use crate::items::{item_count, item_word, small_enough, value_size};
 use crate::types::Sized;
 use crate::widths::header_size;
 
@@ -30,7 +30,7 @@ fn size_of_element(items: &[u64], values: &[u8], at: usize, sizes: &mut [u64]) -
         return Sized {
             size: header_size(id, size) + size,
             next: inside.next + 1,
-            fits: both(small_enough(size), inside.fits),
+            fits: small_enough(size) && inside.fits,
         };
     }
     let n = value_size(
@@ -46,8 +46,8 @@ fn size_of_element(items: &[u64], values: &[u8], at: usize, sizes: &mut [u64]) -
     }
 }
 
-// The size of the elements from item at on, up to the End of the master that they are in or the end of the list; the
-// sizes of the masters in them are kept.
+/// The size of the elements from item at on, up to the End of the master that they are in or the end of the list; the
+/// sizes of the masters in them are kept.
 #[cycle(size_of_element_size_of_run)]
 pub fn size_of_run(items: &[u64], values: &[u8], at: usize, sizes: &mut [u64]) -> Sized
     requires { Sizable (marks_of values.now items.now) × RunAt (marks_of values.now items.now) at
@@ -76,6 +76,6 @@ pub fn size_of_run(items: &[u64], values: &[u8], at: usize, sizes: &mut [u64]) -
     Sized {
         size: first.size + others.size,
         next: others.next,
-        fits: both(first.fits, others.fits),
+        fits: first.fits && others.fits,
     }
 }

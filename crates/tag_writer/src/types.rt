@@ -1,13 +1,18 @@
-// What the writer answers.
+//! What the writer answers.
 
-// The most items that a list may have.
+ghost use Rattle.std.specs.Prelude.{◌≡◌};
+ghost use Rattle.tag_writer.specs.declared.types.WriteError.TheVariants.{TableFails};
+
+use table::types::TableError;
+
+/// The most items that a list may have.
 pub const MOST_ITEMS: usize = 512;
 
-// A greater size is not written.
+/// A greater size is not written.
 pub const GREATEST_SIZE: u64 = 4_000_000_000;
 
-// The refusals 40 to 44, in their order.
-#[derive(Clone, Copy)]
+/// Why no document is written: the refusals 40 to 44, in their order.
+#[derive(Clone, Copy, Debug, PartialEq, Eq)]
 pub enum WriteError {
     TableFails,
     TooManyItems,
@@ -16,15 +21,16 @@ pub enum WriteError {
     OutputTooShort,
 }
 
-// The length of the document, or why none was written.
-#[derive(Clone, Copy)]
-pub enum Wrote {
-    Written(usize),
-    Refused(WriteError),
+impl From<TableError> for WriteError {
+    ghost from_gives = { λ _ e. e ≡ TableFails };
+
+    fn from(_e: TableError) -> WriteError {
+        WriteError::TableFails
+    }
 }
 
-// The bytes of an element or of a run of elements, the first item after it, and whether every master in it is of a size
-// that may be written.
+/// The bytes of an element or of a run of elements, the first item after it, and whether every master in it is of a size
+/// that may be written. `size_of_run` fixes all three also where one does not fit, so that `fits` is no Option round them.
 #[derive(Clone, Copy)]
 pub struct Sized {
     pub size: u64,

@@ -1,14 +1,14 @@
 -- Laws of a whole text put into lent bytes. Assumes nothing.
-use Prim.Native.Nat.{ℕ, suc, ◌+◌, ◌≤◌, ◌<◌}
-use mathlib.Core.Path.{◌≡◌, refl, ap, ◌∙◌}
-use mathlib.Core.List.{List, [], ◌∷◌, ◌++◌}
+use Prim.Native.Nat.{ℕ, ◌+◌, ◌≤◌, ◌<◌}
+use mathlib.Core.Path.{◌≡◌, refl, sym, ap, ◌∙◌}
+use mathlib.Core.List.{List, ◌++◌, append_assoc}
 use native.Mathlib.Omega.{arith}
 use borrow.Author.Tests.{lt-ltb, le-ltb}
-use lib.ListN.{length, take, get_or, set, drop}
-use lib.Seq.{sets-eq, take-suc, take_all}
+use lib.ListN.{length, take, drop}
+use lib.Seq.{sets-eq, drop-drop}
+use borrow.Rule.Slice.PartMut.{put_mid}
 use Rattle.tools.specs.Answers.{Gives}
 use Rattle.numerals.specs.Puts.{Puts}
-use Rattle.numerals.proofs.Putting.{and_then, within}
 use Rattle.texts.specs.Out.{text_out}
 
 module _ (most : ℕ) (text : List ℕ) where
@@ -33,18 +33,10 @@ module _ (most : ℕ) (text : List ℕ) where
         omega arith,
       )
 
--- ---- byte by byte
-
--- one byte more
-pub one_more : (text out out₀ : List ℕ) (at i : ℕ) → i < length text → Puts i (at + i) out out₀ at (take i text)
-    → Puts (i + 1) (at + (i + 1)) (set out (at + i) (get_or text i 0)) out₀ at (take (i + 1) text)
-one_more text out out₀ at i h p =
-    let one : Puts 1 (at + (i + 1)) (set out (at + i) (get_or text i 0)) out (at + i) (get_or text i 0 ∷ []) =
-    record { place = omega arith; bytes = refl; few = omega arith } in
-    let e : i + 1 ≡ suc i = omega arith in
-    rw (e, take-suc text i 0 h) (rw e at (and_then p one))
-
--- every byte
-pub all_put : (text out out₀ : List ℕ) (at i : ℕ) → length text ≤ i → i ≤ length text → Puts i (at + i) out out₀ at (take i text)
-    → Puts (length text) (at + i) out out₀ at text
-all_put text out out₀ at i h k p = within (omega arith) (rw (take_all i text h) at p)
+-- a text that was copied to a place of lent bytes, n of them
+pub all_put : (text mid out : List ℕ) (at n : ℕ) → at + length text ≤ length out → n ≡ length text → mid ≡ text
+    → Puts (length text) (at + length text) (put_mid at n out mid) out at text
+all_put text mid out at n h e m =
+    let behind = ap (λ (k : List ℕ). take at out ++ (text ++ k)) (drop-drop (length text) at out) in
+    let whole = sym (append_assoc (take at out) text (drop (at + length text) out)) ∙ sym (sets-eq text out at h) in
+    rw (m, e) (record { place = refl; bytes = behind ∙ whole; few = omega arith })

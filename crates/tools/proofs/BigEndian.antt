@@ -8,7 +8,8 @@ use native.Mathlib.Numerals.{add-one}
 use lib.Arith.{digits_lt, digits_div, digits_mod}
 use lib.ListN.{length, get_or, take, drop, set, replicate}
 use lib.Pow.{pow-add, pow_mono, mod-pow-add}
-use lib.Seq.{take-suc}
+use lib.Seq.{take-suc, take_all}
+use Rattle.std.specs.Int.{w64, to_be_bytes}
 use Rattle.tools.specs.Bytes.{Octets, be_from, be_number, be_bytes}
 
 -- ---- one byte more
@@ -26,6 +27,10 @@ push i v b h l = subst (λ (x : ℕ). v * 256 + b < x) (sym (pow-add 2 (8 * i) 8
 
 pub in64 : (i : ℕ) {v : ℕ} → v < 2 ^ (8 * i) → i ≤ 8 → v < 2 ^ 64
 in64 i h l = let k : 8 * i ≤ 64 = omega arith in lt_of_lt_of_le h (pow_mono k)
+
+-- one byte more, yet 0, of fewer than eight
+pub shifted : (i v : ℕ) → v < 2 ^ (8 * i) → i < 8 → v * 256 < 2 ^ 64
+shifted i v h l = let k : v * 256 + 0 < 2 ^ 64 = in64 (i + 1) (push i v 0 h (omega arith)) (omega arith) in omega arith
 
 -- ---- the bytes of a number
 
@@ -55,6 +60,25 @@ over_more s d j hs hd = rw add-one (go s d j hs hd)
     go (x ∷ s) [] j hs hd = absurd (not-suc-le-zero hd)
     go (x ∷ s) (y ∷ d) zero hs hd = refl
     go (x ∷ s) (y ∷ d) (suc j) hs hd = ap (λ (l : List ℕ). x ∷ l) (go s d j (omega arith) (omega arith))
+
+-- the lowest bytes of j
+low_bytes : (m j n : ℕ) → drop m (be_bytes j n) ≡ be_bytes (j - m) n
+unfolding be_bytes
+low_bytes zero j n = let e : j - 0 ≡ j = omega arith in rw e
+low_bytes (suc m) zero n = let e : 0 - suc m ≡ 0 = omega arith in rw e
+low_bytes (suc m) (suc j) n = let e : suc j - suc m ≡ j - m = omega arith in rw e (low_bytes m j n)
+
+eight_bytes : (n : ℕ) → to_be_bytes w64 n ≡ be_bytes 8 n
+unfolding be_bytes
+eight_bytes n = let e : n / 1 ≡ n = omega arith in rw e
+
+-- the last bytes of the eight that `to_be_bytes` gives are the lowest
+pub last_bytes : (k n : ℕ) → k ≤ 8 → take (8 - (8 - k)) (drop (8 - k) (to_be_bytes w64 n)) ≡ be_bytes k n
+last_bytes k n h =
+    let e : 8 - (8 - k) ≡ k = omega arith in
+    let all : length (be_bytes k n) ≤ k = rw length-be_bytes (omega arith) in
+    let lowest : drop (8 - k) (to_be_bytes w64 n) ≡ be_bytes k n = ap (drop (8 - k)) (eight_bytes n) ∙ low_bytes (8 - k) 8 n ∙ ap (λ (x : ℕ). be_bytes x n) e in
+    rw (e, lowest) (take_all k (be_bytes k n) all)
 
 -- ---- there and back
 

@@ -14,30 +14,30 @@ use Rattle.tools.specs.SignedVint.{signed_width, signed_vint_limit, as_signed_vi
 use Rattle.tools.specs.Integer.{absolute_value}
 use Rattle.tools.specs.Twos.{bits_of}
 use Rattle.tools.specs.declared.errors.ToolError.TheVariants.{ReadVintOverflow, WriteVintOverflow, WriteSignedVintOverflow, WidthMismatch, OutputTooShort}
-use Rattle.tools.specs.declared.vint.ReadVint.TheVariants.{NeedMore, Refused, Vint}
-use Rattle.tools.specs.declared.vint.Written.TheVariants as written
+use Rattle.std.specs.Prelude.{Err, Ok}
+use Rattle.tools.specs.declared.status.Status.TheVariants as status
 
 pub gives : {A : Type 0} {r : A} {o : List ℕ} {p : A × List ℕ} → p ≡ (r, o) → Gives r o p
 gives {A} e = record { answer = ap (λ (q : A × List ℕ). q.0) (sym e); bytes = ap (λ (q : A × List ℕ). q.1) (sym e) }
 
 -- ---- read_vint
 
-pub read_none : (s : List ℕ) → length s ≡ 0 → read_vint s ≡ NeedMore missing_of_none
+pub read_none : (s : List ℕ) → length s ≡ 0 → read_vint s ≡ Ok (status.NeedMore missing_of_none)
 unfolding read_vint
 read_none s h = simp (eq-eqb _ _ h)
 
 module _ (s : List ℕ) (some : length s ≡ 0 → ⊥) where
-  pub read_zero : get_or s 0 0 ≡ 0 → read_vint s ≡ Refused ReadVintOverflow
+  pub read_zero : get_or s 0 0 ≡ 0 → read_vint s ≡ Err ReadVintOverflow
   unfolding read_vint
   read_zero h = simp (ne_eqb _ _ some, eq-eqb _ _ h)
 
   pub read_short : (get_or s 0 0 ≡ 0 → ⊥) → length s < vint_length (get_or s 0 0)
-      → read_vint s ≡ NeedMore (less_present (vint_length (get_or s 0 0)) s)
+      → read_vint s ≡ Ok (status.NeedMore (less_present (vint_length (get_or s 0 0)) s))
   unfolding read_vint
   read_short n h = simp (ne_eqb _ _ some, ne_eqb _ _ n, lt-ltb _ _ h)
 
   pub read_whole : (get_or s 0 0 ≡ 0 → ⊥) → vint_length (get_or s 0 0) ≤ length s
-      → read_vint s ≡ Vint (vint_value (vint_length (get_or s 0 0)) (take (vint_length (get_or s 0 0)) s)) (vint_length (get_or s 0 0))
+      → read_vint s ≡ Ok (status.Complete (vint_value (vint_length (get_or s 0 0)) (take (vint_length (get_or s 0 0)) s), vint_length (get_or s 0 0)))
   unfolding read_vint
   read_whole n h = simp (ne_eqb _ _ some, ne_eqb _ _ n, le-ltb _ _ h)
 
@@ -73,28 +73,28 @@ short_needs_more s some n h = rw (read_short s some n h)
 -- ---- as_vint_with_length and as_vint
 
 module _ (v L : ℕ) (out : List ℕ) where
-  pub width_none : L ≡ 0 → as_vint_with_length v L out ≡ (written.Refused WidthMismatch, out)
+  pub width_none : L ≡ 0 → as_vint_with_length v L out ≡ (Err WidthMismatch, out)
   unfolding as_vint_with_length
   width_none h = simp (eq-eqb _ _ h)
 
-  pub width_over : (L ≡ 0 → ⊥) → 8 < L → as_vint_with_length v L out ≡ (written.Refused WidthMismatch, out)
+  pub width_over : (L ≡ 0 → ⊥) → 8 < L → as_vint_with_length v L out ≡ (Err WidthMismatch, out)
   unfolding as_vint_with_length
   width_over n h = simp (ne_eqb _ _ n, lt-ltb _ _ h)
 
   module _ (n : L ≡ 0 → ⊥) (w : L ≤ 8) where
-    pub value_over : 2 ^ (7 * L) ≤ v → as_vint_with_length v L out ≡ (written.Refused WriteVintOverflow, out)
+    pub value_over : 2 ^ (7 * L) ≤ v → as_vint_with_length v L out ≡ (Err WriteVintOverflow, out)
     unfolding as_vint_with_length
     value_over h = simp (ne_eqb _ _ n, le-ltb _ _ w, le-leb _ _ h)
 
-    pub out_short : v < 2 ^ (7 * L) → length out < L → as_vint_with_length v L out ≡ (written.Refused OutputTooShort, out)
+    pub out_short : v < 2 ^ (7 * L) → length out < L → as_vint_with_length v L out ≡ (Err OutputTooShort, out)
     unfolding as_vint_with_length
     out_short f h = simp (ne_eqb _ _ n, le-ltb _ _ w, lt-leb _ _ f, lt-ltb _ _ h)
 
-    pub vint_written : v < 2 ^ (7 * L) → L ≤ length out → as_vint_with_length v L out ≡ (written.Length L, vint_bytes L v ++ drop L out)
+    pub vint_written : v < 2 ^ (7 * L) → L ≤ length out → as_vint_with_length v L out ≡ (Ok L, vint_bytes L v ++ drop L out)
     unfolding as_vint_with_length
     vint_written f h = simp (ne_eqb _ _ n, le-ltb _ _ w, lt-leb _ _ f, le-ltb _ _ h)
 
-pub least_over : (v : ℕ) (out : List ℕ) → vint_limit ≤ v → as_vint v out ≡ (written.Refused WriteVintOverflow, out)
+pub least_over : (v : ℕ) (out : List ℕ) → vint_limit ≤ v → as_vint v out ≡ (Err WriteVintOverflow, out)
 unfolding as_vint
 least_over v out h = rw (le-leb _ _ h)
 
@@ -104,7 +104,7 @@ least_written v out h = rw (lt-leb _ _ h)
 
 -- ---- as_signed_vint and as_signed_vint_with_length
 
-pub signed_least_over : (z : ℤ) (out : List ℕ) → signed_vint_limit ≤ absolute_value z → as_signed_vint z out ≡ (written.Refused WriteSignedVintOverflow, out)
+pub signed_least_over : (z : ℤ) (out : List ℕ) → signed_vint_limit ≤ absolute_value z → as_signed_vint z out ≡ (Err WriteSignedVintOverflow, out)
 unfolding as_signed_vint
 signed_least_over z out h = rw (le-leb _ _ h)
 
@@ -114,16 +114,16 @@ unfolding as_signed_vint
 signed_least_written z out h = rw (lt-leb _ _ h)
 
 module _ (z : ℤ) (L : ℕ) (out : List ℕ) where
-  pub signed_width_none : L ≡ 0 → as_signed_vint_with_length z L out ≡ (written.Refused WidthMismatch, out)
+  pub signed_width_none : L ≡ 0 → as_signed_vint_with_length z L out ≡ (Err WidthMismatch, out)
   unfolding as_signed_vint_with_length
   signed_width_none h = simp (eq-eqb _ _ h)
 
-  pub signed_width_over : (L ≡ 0 → ⊥) → 8 < L → as_signed_vint_with_length z L out ≡ (written.Refused WidthMismatch, out)
+  pub signed_width_over : (L ≡ 0 → ⊥) → 8 < L → as_signed_vint_with_length z L out ≡ (Err WidthMismatch, out)
   unfolding as_signed_vint_with_length
   signed_width_over n h = simp (ne_eqb _ _ n, lt-ltb _ _ h)
 
   module _ (n : L ≡ 0 → ⊥) (w : L ≤ 8) where
-    pub signed_over : 2 ^ (7 * L - 1) ≤ absolute_value z → as_signed_vint_with_length z L out ≡ (written.Refused WriteSignedVintOverflow, out)
+    pub signed_over : 2 ^ (7 * L - 1) ≤ absolute_value z → as_signed_vint_with_length z L out ≡ (Err WriteSignedVintOverflow, out)
     unfolding as_signed_vint_with_length
     signed_over h = simp (ne_eqb _ _ n, le-ltb _ _ w, le-leb _ _ h)
 

@@ -8,8 +8,9 @@ use lib.ListN.{length, get_or, replicate, length-append, get_or-append}
 use lib.Seq.{take_all}
 use Rattle.tools.specs.Bytes.{Octets, be_from, be_number}
 use Rattle.tools.specs.Vint.{vint_length, vint_value, less_present, read_vint, vint_missing}
-use Rattle.tools.specs.declared.vint.ReadVint.TheVariants as read
 use Rattle.tools.proofs.Cases.{read_short, read_whole}
+use Rattle.std.specs.Prelude.{Ok}
+use Rattle.tools.specs.declared.status.Status.TheVariants as status
 
 -- bytes behind bytes
 be_joined : (n : ℕ) (s t : List ℕ) → be_from n (s ++ t) ≡ be_from (be_from n s) t
@@ -46,7 +47,7 @@ module _ (s : List ℕ) (some : length s ≡ 0 → ⊥) (n : get_or s 0 0 ≡ 0 
 
   -- any bytes make it whole, as many as are missing
   pub begun_whole : (t : List ℕ) → length t ≡ vint_missing (read_vint s)
-      → read_vint (s ++ t) ≡ read.Vint (vint_value (vint_length (get_or s 0 0)) (s ++ t)) (vint_length (get_or s 0 0))
+      → read_vint (s ++ t) ≡ Ok (status.Complete (vint_value (vint_length (get_or s 0 0)) (s ++ t), vint_length (get_or s 0 0)))
   begun_whole t e =
       let L = vint_length (get_or s 0 0) in
       let first : get_or (s ++ t) 0 0 ≡ get_or s 0 0 = get_or-append s t 0 0 (omega arith) in

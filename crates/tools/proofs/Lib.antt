@@ -1,5 +1,6 @@
 pub mod BigEndian
 pub mod Least
+pub mod Statuses
 pub mod Cases
 pub mod Marker
 pub mod PageRule

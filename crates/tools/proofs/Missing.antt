@@ -14,11 +14,13 @@ use Rattle.tools.specs.Bytes.{Octets}
 use Rattle.tools.specs.Missing.{FewerStillMissing, TellsMissing}
 use Rattle.tools.specs.SignedVint.{taken_signed, read_signed_vint, signed_vint_missing}
 use Rattle.tools.specs.Vint.{vint_length, less_present, missing_of_none, read_vint, vint_needs_more, vint_missing}
-use Rattle.tools.specs.declared.vint.ReadVint.{ReadVint}
-use Rattle.tools.specs.declared.vint.ReadVint.TheVariants as read
 use Rattle.tools.proofs.BigEndian.{octets_zeros}
 use Rattle.tools.proofs.Marker.{length-le_8}
 use Rattle.tools.proofs.Cases.{Reading, no_byte, first_zero, too_few, all_there, reading, read_none, read_zero, read_short, read_whole}
+use Rattle.std.specs.Prelude.{Err, Ok, Result}
+use Rattle.tools.specs.declared.status.Status.{Status}
+use Rattle.tools.specs.declared.errors.ToolError.{ToolError}
+use Rattle.tools.specs.declared.status.Status.TheVariants as status
 
 -- ---- the number by the cases of reading
 
@@ -153,10 +155,10 @@ pub signed_missing_same : (s : List ℕ) → signed_vint_missing (read_signed_vi
 unfolding taken_signed
 signed_missing_same s = go (read_vint s)
   where
-    go : (r : ReadVint) → signed_vint_missing (taken_signed r) ≡ vint_missing r
-    go (read.NeedMore missing) = refl
-    go (read.Refused e) = refl
-    go (read.Vint v L) = refl
+    go : (r : Result (Status (ℕ × ℕ)) ToolError) → signed_vint_missing (taken_signed r) ≡ vint_missing r
+    go (Ok (status.NeedMore missing)) = refl
+    go (Err e) = refl
+    go (Ok (status.Complete (v, L))) = refl
 
 -- two readings that say the same number say it alike
 pub same_missing : {f g : List ℕ → ℕ} → ((s : List ℕ) → g s ≡ f s) → (s : List ℕ) → TellsMissing f s → TellsMissing g s

@@ -19,12 +19,14 @@ use Rattle.tools.specs.Bytes.{Octets, be_number, be_bytes}
 use Rattle.tools.specs.Vint.{IsVint, Front, VintPart, Least, vint_limit, vint_length, vint_value, all_ones, read_vint, vint_needs_more, FirstByte0, vint_bytes, least_from, vint_width}
 use Rattle.tools.specs.declared.errors.ToolError.{ToolError}
 use Rattle.tools.specs.declared.errors.ToolError.TheVariants.{ReadVintOverflow}
-use Rattle.tools.specs.declared.vint.ReadVint.{ReadVint}
-use Rattle.tools.specs.declared.vint.ReadVint.TheVariants.{Refused, Vint}
 use Rattle.tools.proofs.BigEndian.{length-be_bytes, octets_be_bytes, octets_take, octets_zeros, be_bytes_lem, bytes_be}
+use Rattle.tools.proofs.Statuses.{ok_complete_parts}
 use Rattle.tools.proofs.Cases.{Reading, no_byte, first_zero, too_few, all_there, reading, read_zero, read_whole, none_needs_more, short_needs_more}
 use Rattle.tools.proofs.Least.{least}
 use Rattle.tools.proofs.Marker.{length-le_8, Marked, marked}
+use Rattle.std.specs.Prelude.{Err, Ok, Result}
+use Rattle.tools.specs.declared.status.Status.{Status}
+use Rattle.tools.specs.declared.status.Status.TheVariants as status
 
 -- ---- what is read is a VINT
 
@@ -49,10 +51,10 @@ never : {A : Type 0} → ◌≡◌ {A = ℕ} 0 1 → A
 never e = absurd (omega arith)
 
 -- a vint that was read asks for no more
-not_more : {r : ReadVint} {v L : ℕ} → r ≡ Vint v L → vint_needs_more r ≡ true → ⊥
+not_more : {r : Result (Status (ℕ × ℕ)) ToolError} {v L : ℕ} → r ≡ Ok (status.Complete (v, L)) → vint_needs_more r ≡ true → ⊥
 not_more e m = false≢true (sym (ap vint_needs_more e) ∙ m)
 
-pub read_sound : (s : List ℕ) (L v : ℕ) → Octets s → read_vint s ≡ Vint v L → Front L v s
+pub read_sound : (s : List ℕ) (L v : ℕ) → Octets s → read_vint s ≡ Ok (status.Complete (v, L)) → Front L v s
 read_sound s L v byte e = go (reading s)
   where
     go : Reading s → Front L v s
@@ -63,10 +65,8 @@ read_sound s L v byte e = go (reading s)
         never no
     go (too_few n z h) = absurd (not_more e (short_needs_more s n z h))
     go (all_there n z h) =
-        let r = read_whole s n z h in
-        let l : vint_length (get_or s 0 0) ≡ L = cc in
-        let w : vint_value (vint_length (get_or s 0 0)) (take (vint_length (get_or s 0 0)) s) ≡ v = cc in
-        rw (← w, ← l) (front s byte n z h)
+        let p = ok_complete_parts _ _ _ _ (sym (read_whole s n z h) ∙ e) in
+        rw (← p.0, ← p.1) (front s byte n z h)
 
 -- ---- a VINT is read
 
@@ -89,7 +89,7 @@ marked_below k v h =
     lt_of_lt_of_le (subst (λ (x : ℕ). 2 ^ (7 * suc k) + v < x) (sym (pow-suc 2 (7 * suc k))) (omega arith)) (pow_mono l)
 
 -- the bytes that are written are read back
-pub round_trip : (L v : ℕ) (rest : List ℕ) → 1 ≤ L → L ≤ 8 → v < 2 ^ (7 * L) → read_vint (vint_bytes L v ++ rest) ≡ Vint v L
+pub round_trip : (L v : ℕ) (rest : List ℕ) → 1 ≤ L → L ≤ 8 → v < 2 ^ (7 * L) → read_vint (vint_bytes L v ++ rest) ≡ Ok (status.Complete (v, L))
 unfolding be_bytes
 round_trip zero v rest p l h = absurd (omega arith)
 round_trip (suc k) v rest p l h =
@@ -125,16 +125,16 @@ written_only L v octets i =
     sym (bytes_be octets i.bytes) ∙ rw (i.count, i.marked)
 
 -- where the octets of a VINT stand in front, its value and its length are answered
-pub read_complete : (L v : ℕ) (octets rest : List ℕ) → IsVint L v octets → read_vint (octets ++ rest) ≡ Vint v L
+pub read_complete : (L v : ℕ) (octets rest : List ℕ) → IsVint L v octets → read_vint (octets ++ rest) ≡ Ok (status.Complete (v, L))
 read_complete L v octets rest i =
     ap (λ (o : List ℕ). read_vint (o ++ rest)) (written_only L v octets i) ∙ round_trip L v rest i.at_least_1 i.at_most_8 i.below
 
 -- so of a list that begins with them
-pub front_read : {L v : ℕ} (s : List ℕ) → Front L v s → read_vint s ≡ Vint v L
+pub front_read : {L v : ℕ} (s : List ℕ) → Front L v s → read_vint s ≡ Ok (status.Complete (v, L))
 front_read {L} {v} s f = ap read_vint (sym (take-append-drop L s)) ∙ read_complete L v (take L s) (drop L s) f.vint
 
 -- a value is answered exactly where its octets stand in front
-pub vint_exactly : (s : List ℕ) (L v : ℕ) → Octets s → (read_vint s ≡ Vint v L) ↔ Front L v s
+pub vint_exactly : (s : List ℕ) (L v : ℕ) → Octets s → (read_vint s ≡ Ok (status.Complete (v, L))) ↔ Front L v s
 vint_exactly s L v byte = (read_sound s L v byte, front_read s)
 
 -- the first octet of a VINT says how many there are
@@ -145,7 +145,7 @@ pub record FirstOctet (L first : ℕ) : Type 0 where
 pub first_octet : {L v : ℕ} (octets : List ℕ) → IsVint L v octets → FirstOctet L (get_or octets 0 0)
 first_octet {L} {v} octets i = go (reading octets)
   where
-    whole : read_vint octets ≡ Vint v L
+    whole : read_vint octets ≡ Ok (status.Complete (v, L))
     whole = ap read_vint (sym (append-nil octets)) ∙ read_complete L v octets [] i
 
     go : Reading octets → FirstOctet L (get_or octets 0 0)
@@ -157,10 +157,7 @@ first_octet {L} {v} octets i = go (reading octets)
         never no
     go (too_few n z h) = absurd (not_more whole (short_needs_more octets n z h))
     go (all_there n z h) =
-        let r = read_whole octets n z h in
-        let q = whole in
-        let w : vint_length (get_or octets 0 0) ≡ L = cc in
-        record { not_zero = z; width = w }
+        record { not_zero = z; width = (ok_complete_parts _ _ _ _ (sym (read_whole octets n z h) ∙ whole)).1 }
 
 -- ---- need more, and what is appended
 
@@ -235,14 +232,14 @@ vint_needs_more_lem s byte = (part (reading s), asks)
         rw front at (read_part p.L p.v p.octets (length s) p.vint (omega (arith, m.some)))
 
 -- refusal 1 comes exactly where the first byte is 0, and no other comes
-pub vint_refused : (s : List ℕ) (x : ToolError) → (read_vint s ≡ Refused x) ↔ ((x ≡ ReadVintOverflow) × FirstByte0 s)
+pub vint_refused : (s : List ℕ) (x : ToolError) → (read_vint s ≡ Err x) ↔ ((x ≡ ReadVintOverflow) × FirstByte0 s)
 vint_refused s x = (why (reading s), λ p. rw (p.1.1, p.0) (read_zero (0 ∷ p.1.0) (λ n. omega arith) refl))
   where
     begins : (s : List ℕ) → (length s ≡ 0 → ⊥) → get_or s 0 0 ≡ 0 → FirstByte0 s
     begins [] n z = absurd (n refl)
     begins (b ∷ s) n z = (s, rw z)
 
-    why : Reading s → read_vint s ≡ Refused x → (x ≡ ReadVintOverflow) × FirstByte0 s
+    why : Reading s → read_vint s ≡ Err x → (x ≡ ReadVintOverflow) × FirstByte0 s
     why (no_byte n) e = absurd (false≢true (sym (ap vint_needs_more e) ∙ none_needs_more s n))
     why (first_zero n z) e =
         let r = read_zero s n z in
@@ -270,7 +267,7 @@ least_below_lem v h = ⊎_elim (λ e. rw e h) (λ x. omega (arith, chosen_below 
 pub least_is : (v : ℕ) → v < vint_limit → IsVint (vint_width v) v (vint_bytes (vint_width v) v)
 least_is v h = written_is (vint_width v) v (chosen v).lo (chosen v).hi (least_below_lem v h)
 
-pub least_back : (v : ℕ) (rest : List ℕ) → v < vint_limit → read_vint (vint_bytes (vint_width v) v ++ rest) ≡ Vint v (vint_width v)
+pub least_back : (v : ℕ) (rest : List ℕ) → v < vint_limit → read_vint (vint_bytes (vint_width v) v ++ rest) ≡ Ok (status.Complete (v, vint_width v))
 least_back v rest h = read_complete (vint_width v) v (vint_bytes (vint_width v) v) rest (least_is v h)
 
 -- no smaller width holds the value below its all-ones form

@@ -19,15 +19,15 @@ use Rattle.tools.specs.Integer.{absolute_value}
 use Rattle.tools.specs.Twos.{signed_of, bits_of}
 use Rattle.tools.specs.SignedVint.{taken_signed, read_signed_vint, signed_vint_needs_more, signed_width, signed_vint_limit, as_signed_vint, as_signed_vint_with_length}
 use Rattle.tools.specs.declared.errors.ToolError.TheVariants.{WriteSignedVintOverflow}
-use Rattle.tools.specs.declared.signed_vint.ReadSignedVint.TheVariants.{Vint}
-use Rattle.tools.specs.declared.vint.ReadVint.{ReadVint}
-use Rattle.tools.specs.declared.vint.ReadVint.TheVariants as read
-use Rattle.tools.specs.declared.vint.Written.TheVariants as written
 use Rattle.tools.proofs.BigEndian.{be_lt}
 use Rattle.tools.proofs.Cases.{signed_least_over, signed_least_written, signed_over, vint_written}
 use Rattle.tools.proofs.Complement.{doubled, signed_low, signed_high, mag_le}
 use Rattle.tools.proofs.Rfc8794.{round_trip, vint_needs_more_lem}
 use Rattle.tools.proofs.Widths.{width_least, width_holds}
+use Rattle.std.specs.Prelude.{Err, Ok, Result}
+use Rattle.tools.specs.declared.status.Status.{Status}
+use Rattle.tools.specs.declared.errors.ToolError.{ToolError}
+use Rattle.tools.specs.declared.status.Status.TheVariants as status
 
 -- ---- two's complement in k bits: -2 ^ (k - 1) to 2 ^ (k - 1) - 1, there and back
 
@@ -67,10 +67,10 @@ pub signed_needs_more : (s : List ℕ) → signed_vint_needs_more (read_signed_v
 unfolding taken_signed
 signed_needs_more s = go (read_vint s)
   where
-    go : (r : ReadVint) → signed_vint_needs_more (taken_signed r) ≡ vint_needs_more r
-    go (read.NeedMore missing) = refl
-    go (read.Refused e) = refl
-    go (read.Vint v L) = refl
+    go : (r : Result (Status (ℕ × ℕ)) ToolError) → signed_vint_needs_more (taken_signed r) ≡ vint_needs_more r
+    go (Ok (status.NeedMore missing)) = refl
+    go (Err e) = refl
+    go (Ok (status.Complete (v, L))) = refl
 
 -- so exactly where less than the octets of a VINT is there
 pub signed_vint_needs_more_lem : (s : List ℕ) → Octets s → (signed_vint_needs_more (read_signed_vint s) ≡ true) ↔ VintPart s
@@ -82,7 +82,7 @@ vint_range L v octets i = in_range (7 * L) v (omega (arith, i.at_least_1)) i.bel
 
 -- what is written is read back
 pub signed_round_trip : (L : ℕ) (z : ℤ) (rest : List ℕ) → 1 ≤ L → L ≤ 8 → mag z < 2 ^ (7 * L - 1)
-    → read_signed_vint (vint_bytes L (bits_of (7 * L) z) ++ rest) ≡ Vint z L
+    → read_signed_vint (vint_bytes L (bits_of (7 * L) z) ++ rest) ≡ Ok (status.Complete (z, L))
 unfolding taken_signed
 signed_round_trip L z rest p l h =
     rw (round_trip L (bits_of (7 * L) z) rest p l (bits_lt (7 * L) z (omega arith) h), bits_back (7 * L) z (omega arith) h)
@@ -93,7 +93,7 @@ signed_least z L p h = ltb-false _ _ ((width_least 1 (mag z)).none L p h)
 
 -- and writes it, for every number within the limit, which is not included
 pub signed_least_writes : (z : ℤ) (out : List ℕ) → absolute_value z < signed_vint_limit → signed_width z ≤ length out
-    → as_signed_vint z out ≡ (written.Length (signed_width z), vint_bytes (signed_width z) (bits_of (7 * signed_width z) z) ++ drop (signed_width z) out)
+    → as_signed_vint z out ≡ (Ok (signed_width z), vint_bytes (signed_width z) (bits_of (7 * signed_width z) z) ++ drop (signed_width z) out)
 signed_least_writes z out h l =
     let w = width_least 1 (mag z) in
     let fits = width_holds 1 (mag z) (lt_of_le_of_lt (mag_le z) h) in
@@ -101,20 +101,20 @@ signed_least_writes z out h l =
     ∙ vint_written (bits_of (7 * signed_width z) z) (signed_width z) out (λ e. omega (arith, w.lo)) w.hi (bits_lt (7 * signed_width z) z (omega (arith, w.lo)) fits) l
 
 pub signed_least_back : (z : ℤ) (rest : List ℕ) → absolute_value z < signed_vint_limit
-    → read_signed_vint (vint_bytes (signed_width z) (bits_of (7 * signed_width z) z) ++ rest) ≡ Vint z (signed_width z)
+    → read_signed_vint (vint_bytes (signed_width z) (bits_of (7 * signed_width z) z) ++ rest) ≡ Ok (status.Complete (z, signed_width z))
 signed_least_back z rest h =
     let w = width_least 1 (mag z) in
     signed_round_trip (signed_width z) z rest w.lo w.hi (width_holds 1 (mag z) (lt_of_le_of_lt (mag_le z) h))
 
 -- ---- the refused ends
 
-pub refused_low : (n : ℕ) (out : List ℕ) → signed_vint_limit ≤ n + 1 → as_signed_vint (negsuc n) out ≡ (written.Refused WriteSignedVintOverflow, out)
+pub refused_low : (n : ℕ) (out : List ℕ) → signed_vint_limit ≤ n + 1 → as_signed_vint (negsuc n) out ≡ (Err WriteSignedVintOverflow, out)
 refused_low n out h = signed_least_over (negsuc n) out (omega arith)
 
-pub refused_high : (n : ℕ) (out : List ℕ) → signed_vint_limit ≤ n → as_signed_vint (pos n) out ≡ (written.Refused WriteSignedVintOverflow, out)
+pub refused_high : (n : ℕ) (out : List ℕ) → signed_vint_limit ≤ n → as_signed_vint (pos n) out ≡ (Err WriteSignedVintOverflow, out)
 refused_high n out h = signed_least_over (pos n) out h
 
 -- with a width, -2 ^ (7 L - 1) is refused, though its bits would hold it
 pub refused_end : (L n : ℕ) (out : List ℕ) → 1 ≤ L → L ≤ 8 → n + 1 ≡ 2 ^ (7 * L - 1)
-    → as_signed_vint_with_length (negsuc n) L out ≡ (written.Refused WriteSignedVintOverflow, out)
+    → as_signed_vint_with_length (negsuc n) L out ≡ (Err WriteSignedVintOverflow, out)
 refused_end L n out p l e = signed_over (negsuc n) L out (λ x. omega arith) l (omega arith)

@@ -218,8 +218,8 @@ top t pos-t l =
 pub shl_is : (t k : ℕ) → t * 2 ^ k < 2 ^ 53 → (t * 2 ^ k) % 2 ^ 64 ≡ t * 2 ^ k
 shl_is t k h = mod-eq_of_lt (omega arith)
 
-pub is-nan : (b : ℕ) → 0x7f80_0000 < b % 0x8000_0000 → nan_bits binary32 b ≡ true
-is-nan b h = nan_bits_above binary32 b ∙ lt-ltb 0x7f80_0000 (b % 0x8000_0000) h
+pub nan_over : (b : ℕ) → 0x7f80_0000 < b % 0x8000_0000 → nan_bits binary32 b ≡ true
+nan_over b h = nan_bits_above binary32 b ∙ lt-ltb 0x7f80_0000 (b % 0x8000_0000) h
 
 pub no_nan : (b : ℕ) → b % 0x8000_0000 ≤ 0x7f80_0000 → nan_bits binary32 b ≡ false
 no_nan b h = nan_bits_above binary32 b ∙ le-ltb 0x7f80_0000 (b % 0x8000_0000) h

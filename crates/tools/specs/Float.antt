@@ -1,13 +1,12 @@
 -- Float payloads: document 01, "Numbers": "4 or 8 bytes, answered as 64 bits; 4 are widened by bits, exactly". IEEE 754
 -- is that of `lib.Ieee`.
-use Rattle.std.specs.Prelude.{ℕ, ◌+◌, ◌-◌, ◌*◌, ◌/◌, ◌%◌, ◌^◌, cond, ◌≡◌, List, eqb, length}
+use Rattle.std.specs.Prelude.{ℕ, ◌+◌, ◌-◌, ◌*◌, ◌/◌, ◌%◌, ◌^◌, cond, ◌≡◌, List, eqb, length, Err, Ok, Result}
 use Rattle.std.specs.Int.Count.{count_leading_zeros}
 use Rattle.std.specs.Float.{binary32, binary64}
 use Rattle.std.specs.Float.Ieee.{nan_bits, to_bits, of_bits}
 use Rattle.tools.specs.Bytes.{be_number}
 use Rattle.tools.specs.declared.errors.ToolError.TheVariants.{ReadF64Mismatch}
-use Rattle.tools.specs.declared.float.ArrToF64.{ArrToF64}
-use Rattle.tools.specs.declared.float.ArrToF64.TheVariants.{Bits, Refused}
+use Rattle.tools.specs.declared.errors.ToolError.{ToolError}
 
 -- a NaN keeps its sign and fraction and gets its quiet bit; of any other pattern, the binary64 pattern of the value
 -- that it denotes
@@ -24,10 +23,10 @@ pub record KeptNan (b w : ℕ) : Type 0 where
   pub fraction : w % 2 ^ 51 ≡ b % 2 ^ 22 * 2 ^ 29
 
 -- the 64 bits of a float of 4 or 8 bytes; another length is refused
-unfoldable pub arr_to_f64 : List ℕ → ArrToF64
+unfoldable pub arr_to_f64 : List ℕ → Result ℕ ToolError
 arr_to_f64 s =
-    cond (eqb (length s) 4) (Bits (widened (be_number s)))
-    (cond (eqb (length s) 8) (Bits (be_number s)) (Refused ReadF64Mismatch))
+    cond (eqb (length s) 4) (Ok (widened (be_number s)))
+    (cond (eqb (length s) 8) (Ok (be_number s)) (Err ReadF64Mismatch))
 
 -- ---- what a helper's contract uses
 

@@ -1,13 +1,12 @@
 -- Variable-size integers: RFC 8794, section 4, and document 01, "Numbers", over the width L.
-use Rattle.std.specs.Prelude.{ℕ, zero, suc, ◌+◌, ◌-◌, ◌*◌, ◌%◌, ◌^◌, ◌≤◌, ◌<◌, Bool, true, false, cond, ◌≡◌, List, ◌∷◌, ◌++◌, leb, ltb, eqb, length, get_or, take, drop}
+use Rattle.std.specs.Prelude.{ℕ, zero, suc, ◌+◌, ◌-◌, ◌*◌, ◌%◌, ◌^◌, ◌≤◌, ◌<◌, Bool, true, false, cond, ◌≡◌, List, ◌∷◌, ◌++◌, leb, ltb, eqb, length, get_or, take, drop, Err, Ok, Result}
 use Rattle.std.specs.Int.Count.{count_leading_zeros}
 use Rattle.basics.specs.Lists.{ProperPrefix}
 use Rattle.tools.specs.Bytes.{Octets, be_number, be_bytes}
 use Rattle.tools.specs.declared.errors.ToolError.TheVariants.{ReadVintOverflow, WriteVintOverflow, WidthMismatch, OutputTooShort}
-use Rattle.tools.specs.declared.vint.ReadVint.{ReadVint}
-use Rattle.tools.specs.declared.vint.ReadVint.TheVariants as read
-use Rattle.tools.specs.declared.vint.Written.{Written}
-use Rattle.tools.specs.declared.vint.Written.TheVariants as written
+use Rattle.tools.specs.declared.status.Status.{Status}
+use Rattle.tools.specs.declared.errors.ToolError.{ToolError}
+use Rattle.tools.specs.declared.status.Status.TheVariants as status
 
 -- RFC 8794, section 4: VINT_WIDTH zero bits, the bit VINT_MARKER, and VINT_DATA of 7 bits to an octet. So the octets of
 -- a VINT of L octets with the value v are those whose big-endian number is 2 ^ (7 L) + v, where v is below 2 ^ (7 L).
@@ -55,27 +54,27 @@ abbrev pub missing_of_none : ℕ
 missing_of_none = 1
 
 -- a vint of L bytes at the front of s, which needs more where s is shorter
-abbrev pub vint_at : ℕ → List ℕ → ReadVint
-vint_at L s = cond (ltb (length s) L) (read.NeedMore (less_present L s)) (read.Vint (vint_value L (take L s)) L)
+abbrev pub vint_at : ℕ → List ℕ → Result (Status (ℕ × ℕ)) ToolError
+vint_at L s = cond (ltb (length s) L) (Ok (status.NeedMore (less_present L s))) (Ok (status.Complete (vint_value L (take L s), L)))
 
 -- "no byte, or fewer than its length: need more. First byte 0: refusal 1"
-unfoldable pub read_vint : List ℕ → ReadVint
+unfoldable pub read_vint : List ℕ → Result (Status (ℕ × ℕ)) ToolError
 read_vint s =
-    cond (eqb (length s) 0) (read.NeedMore missing_of_none)
-    (cond (eqb (get_or s 0 0) 0) (read.Refused ReadVintOverflow)
+    cond (eqb (length s) 0) (Ok (status.NeedMore missing_of_none))
+    (cond (eqb (get_or s 0 0) 0) (Err ReadVintOverflow)
     (vint_at (vint_length (get_or s 0 0)) s))
 
 -- the answer asks for more bytes
-abbrev pub vint_needs_more : ReadVint → Bool
-vint_needs_more (read.NeedMore missing) = true
-vint_needs_more (read.Refused e) = false
-vint_needs_more (read.Vint v L) = false
+abbrev pub vint_needs_more : Result (Status (ℕ × ℕ)) ToolError → Bool
+vint_needs_more (Ok (status.NeedMore missing)) = true
+vint_needs_more (Err e) = false
+vint_needs_more (Ok (status.Complete (v, L))) = false
 
 -- how many bytes it asks for, at least: 0 where it asks for none
-abbrev pub vint_missing : ReadVint → ℕ
-vint_missing (read.NeedMore missing) = missing
-vint_missing (read.Refused e) = 0
-vint_missing (read.Vint v L) = 0
+abbrev pub vint_missing : Result (Status (ℕ × ℕ)) ToolError → ℕ
+vint_missing (Ok (status.NeedMore missing)) = missing
+vint_missing (Err e) = 0
+vint_missing (Ok (status.Complete (v, L))) = 0
 
 -- "First byte 0"
 abbrev pub FirstByte0 : List ℕ → Type 0
@@ -109,22 +108,22 @@ vint_width v = least_from (λ L. ltb v (2 ^ (7 * L) - 1)) 7 1
 
 -- the refusals in their order: 4 the width, 2 the value, 5 the lent output; else L bytes at its front, and no other
 -- byte
-unfoldable pub as_vint_with_length : ℕ → ℕ → List ℕ → Written × List ℕ
+unfoldable pub as_vint_with_length : ℕ → ℕ → List ℕ → Result ℕ ToolError × List ℕ
 as_vint_with_length v L out =
-    cond (eqb L 0) (written.Refused WidthMismatch, out)
-    (cond (ltb 8 L) (written.Refused WidthMismatch, out)
-    (cond (leb (2 ^ (7 * L)) v) (written.Refused WriteVintOverflow, out)
-    (cond (ltb (length out) L) (written.Refused OutputTooShort, out)
-    (written.Length L, vint_bytes L v ++ drop L out))))
+    cond (eqb L 0) (Err WidthMismatch, out)
+    (cond (ltb 8 L) (Err WidthMismatch, out)
+    (cond (leb (2 ^ (7 * L)) v) (Err WriteVintOverflow, out)
+    (cond (ltb (length out) L) (Err OutputTooShort, out)
+    (Ok L, vint_bytes L v ++ drop L out))))
 
 -- no vint holds this value or a greater one: 8 bytes have 56 bits of data
 abbrev pub vint_limit : ℕ
 vint_limit = 2 ^ 56
 
 -- "2^56 and above: refusal 2"; else the least width
-unfoldable pub as_vint : ℕ → List ℕ → Written × List ℕ
+unfoldable pub as_vint : ℕ → List ℕ → Result ℕ ToolError × List ℕ
 as_vint v out =
-    cond (leb vint_limit v) (written.Refused WriteVintOverflow, out) (as_vint_with_length v (vint_width v) out)
+    cond (leb vint_limit v) (Err WriteVintOverflow, out) (as_vint_with_length v (vint_width v) out)
 
 -- ---- what looks like an ID
 

@@ -1,24 +1,10 @@
-// Payloads that are floats: `arr_to_f64` of tools.rs. A float is answered as the 64 bits of its binary64 pattern.
+//! Payloads that are floats, RFC 8794, section 7.3: `arr_to_f64` of tools.rs. A float is answered as the 64 bits of its binary64 pattern.
 
 ghost use Rattle.std.specs.Prelude.{◌≡◌, ◌^◌, ◌<◌};
 ghost use Rattle.tools.specs.Float.{widened, subnormal_of, arr_to_f64};
 
 use crate::bytes::be_number;
 use crate::errors::ToolError;
-
-// The 64 bits read, or why not.
-#[derive(Clone, Copy)]
-pub enum ArrToF64 {
-    Bits(u64),
-    Refused(ToolError),
-}
-
-// 32 bits as a number.
-fn wide(x: u32) -> u64
-    ensures { result ≡ x }
-{
-    x as u64
-}
 
 // The exponent and the fraction of a binary32 subnormal, whose highest set bit becomes the hidden one.
 fn subnormal(fraction: u64) -> u64
@@ -30,10 +16,11 @@ fn subnormal(fraction: u64) -> u64
 }
 
 // The binary64 pattern of what a binary32 pattern denotes, by bits alone.
+#[tactic(auto, using(crate::proofs::Widening::nan_over, crate::proofs::Widening::to_inf, crate::proofs::Widening::to_normal, crate::proofs::Widening::to_zero, crate::proofs::Widening::to_sub), unfolding(crate::specs::Float::widened))]
 fn widen(b: u32) -> u64
     ensures { result ≡ widened b }
 {
-    let n = wide(b);
+    let n = u64::from(b);
     let sign = n / 0x8000_0000 * 0x8000_0000_0000_0000;
     let rest = n % 0x8000_0000;
     let exponent = rest / 0x80_0000;
@@ -53,16 +40,14 @@ fn widen(b: u32) -> u64
     sign + subnormal(fraction)
 }
 
-// The 64 bits of a float of 4 or 8 bytes.
-pub fn arr_to_f64(arr: &[u8]) -> ArrToF64
+/// The 64 bits of a float of 4 or 8 bytes; another length is refused.
+#[tactic(auto, unfolding(crate::specs::Float::arr_to_f64))]
+pub fn arr_to_f64(arr: &[u8]) -> Result<u64, ToolError>
     ensures { result ≡ arr_to_f64 arr.now }
 {
-    let n = arr.len();
-    if n == 4 {
-        return ArrToF64::Bits(widen(be_number(arr, n) as u32));
+    match arr.len() {
+        4 => Ok(widen(be_number(arr) as u32)),
+        8 => Ok(be_number(arr)),
+        _ => Err(ToolError::ReadF64Mismatch),
     }
-    if n == 8 {
-        return ArrToF64::Bits(be_number(arr, n));
-    }
-    ArrToF64::Refused(ToolError::ReadF64Mismatch)
 }

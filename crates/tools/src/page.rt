@@ -1,4 +1,4 @@
-// The length page: the vint length for each of the 256 first bytes, as the interface specification prints it.
+//! The length page: the vint length for each of the 256 first bytes, as the interface prints it.
 
 ghost use Rattle.tools.specs.Page.{OnPage};
 
@@ -22,9 +22,9 @@ const VINT_LENGTHS: [u8; 256] = *b"\
     \x01\x01\x01\x01\x01\x01\x01\x01\x01\x01\x01\x01\x01\x01\x01\x01\
     \x01\x01\x01\x01\x01\x01\x01\x01\x01\x01\x01\x01\x01\x01\x01\x01";
 
-// The vint length that the page has for a first byte.
+/// The vint length that the page has for a first byte: 1 to 8, and 0 where no vint begins.
 pub fn length_on_page(first: u8) -> usize
     ensures { OnPage first result }
 {
-    VINT_LENGTHS[first as usize] as usize
+    usize::from(VINT_LENGTHS[usize::from(first)])
 }

@@ -1,4 +1,4 @@
-// Two's complement in a number of bits. Helpers of this crate alone.
+//! Two's complement in a number of bits. Helpers of this crate alone.
 
 ghost use Rattle.std.specs.Prelude.{◌≡◌, not, ◌-◌, ◌^◌, ◌≤◌, ◌<◌, pos, negsuc};
 ghost use Rattle.std.specs.Int.Signed.{mag, non_neg};
@@ -22,26 +22,28 @@ fn minus(x: u64) -> i64
     -1 - (x as i64)
 }
 
-// The two's complement reading of a number of so many bits.
+/// The two's complement reading of a number of so many bits.
+#[tactic(auto, using(crate::proofs::Complement::doubled, crate::proofs::Complement::signed_low, crate::proofs::Complement::signed_high))]
 pub fn signed_of(value: u64, bits: usize) -> i64
     requires { (1 ≤ bits) × (bits ≤ 64) × (value < 2 ^ bits) }
     ensures { result ≡ signed_of bits value }
 {
     let half = pow2(bits - 1);
     if value < half {
-        return plus(value);
+        plus(value)
+    } else {
+        minus(half - 1 - (value - half))
     }
-    minus(half - 1 - (value - half))
 }
 
-// Whether a number is below 0.
+/// Whether a number is below 0.
 pub fn is_negative(val: i64) -> bool
     ensures { result ≡ not (non_neg val) }
 {
     val < 0
 }
 
-// The number itself, or of a negative one how far below -1 it is.
+/// The number itself, or of a negative one how far below -1 it is.
 pub fn mag_of(val: i64) -> u64
     ensures { result ≡ mag val }
 {
@@ -59,7 +61,7 @@ fn ones(bits: usize) -> u64
     pow2(bits) - 1
 }
 
-// The two's complement of val in so many bits.
+/// The two's complement of val in so many bits.
 pub fn bits_of(val: i64, bits: usize) -> u64
     requires { (bits ≤ 64) × (mag val < 2 ^ bits) }
     ensures { result ≡ bits_of bits val }

@@ -5,9 +5,14 @@ use mathlib.Core.Path.{◌≡◌, refl, sym, ap, ◌∙◌}
 use mathlib.Core.Bool.{Bool, true, false, cond}
 use mathlib.Core.List.{List, [], ◌∷◌}
 use native.Mathlib.Omega.{arith}
+use lib.Dec.{ltb}
 use native.Mathlib.Nat.{add-zero}
-use borrow.Author.Tests.{lt-ltb}
-use lib.ListN.{length, get_or, drop, length-drop}
+use borrow.Author.Tests.{lt-ltb, ltb-true}
+use lib.ListN.{length, get_or, take, drop, length-take, length-drop}
+use Rattle.std.specs.List.{fold}
+use Rattle.std.specs.Prelude.{bit_or}
+use Rattle.std.proofs.lemmas.Nat.{le_or_l, le_or_r}
+use Rattle.std.proofs.lemmas.List.{get_or-take, get_or-drop}
 use lib.Seq.{drop-drop}
 use Rattle.utf8.specs.Rfc3629.{Range, fits, rows, first_fit, char_length, text_after, is_text}
 use Rattle.utf8.specs.Helpers.{Passed}
@@ -68,3 +73,20 @@ passed_ascii s i (suc n) l h =
     let one : char_length (drop (i + n) s) ≡ 1 = ascii_char s (i + n) here low in
     let e : i + n + 1 ≡ i + suc n = omega arith in
     passed_more (passed_ascii s i n (omega arith) (λ k b. h k (omega arith))) (rw (← e) (passed_char s (i + n) 1 here one (omega arith)))
+
+-- octets whose bits together are below 0x80
+below_fold : (s : List ℕ) (a : ℕ) → a ≤ fold bit_or a s
+below_fold [] a = omega arith
+below_fold (b ∷ s) a = omega (arith, le_or_l a b, below_fold s (bit_or a b))
+
+ascii_from_fold : (s : List ℕ) (a : ℕ) → fold bit_or a s < 0x80 → (k : ℕ) → k < length s → get_or s k 0 < 0x80
+ascii_from_fold [] a h k l = absurd (omega arith)
+ascii_from_fold (b ∷ s) a h zero l = omega (arith, le_or_r a b, below_fold s (bit_or a b))
+ascii_from_fold (b ∷ s) a h (suc k) l = ascii_from_fold s (bit_or a b) h k (omega arith)
+
+-- n octets from i on that are so
+pub passed_run : (s : List ℕ) (i n : ℕ) → i + n ≤ length s → ltb (fold bit_or 0 (take n (drop i s))) 0x80 ≡ true → Passed s i (i + n)
+passed_run s i n h e =
+    let few : length (take n (drop i s)) ≡ n = omega (arith, length-take n (drop i s), length-drop i s) in
+    let low = ascii_from_fold (take n (drop i s)) 0 (ltb-true _ _ e) in
+    passed_ascii s i n h (λ k l. omega (arith, low k (omega arith), get_or-take n (drop i s) k 0 l, get_or-drop i s k 0))

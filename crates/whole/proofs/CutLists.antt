@@ -28,6 +28,8 @@ use Rattle.guarantees.specs.CutRecords.{LendsNext, InOrder, BeginsWithMaster}
 use Rattle.guarantees.proofs.CutRecords.{bench_cut_records}
 use Rattle.whole.specs.Night.{is_finish, finishes}
 use Rattle.whole.proofs.Readings.{finish-later}
+use Rattle.std.specs.Prelude.{Err, Ok, Result}
+use Rattle.decoder_rules.specs.declared.types.Refusal.{Refusal}
 
 -- the calls cs read the record s in order, and so many bytes are still to come
 pub record Reading (s : List ℕ) (cs : List Call) (left : List ℕ) : Type 0 where
@@ -69,14 +71,14 @@ read_on s cs left r reading c = record {
   rest = rw (c.told, reading.rest) (drop-drop r.taken (position_at bench_entries bench_parts cs) s);
 }
 
-finish_is : (a : Answer) → is_finish a ≡ true → a ≡ answer.Finished
-finish_is (answer.Event e) q = absurd (false≢true q)
-finish_is (answer.NeedMore missing) q = absurd (false≢true q)
-finish_is answer.Finished q = refl
-finish_is (answer.Refused r) q = absurd (false≢true q)
+finish_is : (a : Result Answer Refusal) → is_finish a ≡ true → a ≡ Ok answer.Finished
+finish_is (Ok (answer.Event e)) q = absurd (false≢true q)
+finish_is (Ok (answer.NeedMore missing)) q = absurd (false≢true q)
+finish_is (Ok answer.Finished) q = refl
+finish_is (Err r) q = absurd (false≢true q)
 
 module _ (size : ℕ) (s : List ℕ) (byte : Octets s)
-    (never : (cs : List Call) (c : Call) → Lent (c ∷ cs) → InOrder bench_entries bench_parts s (c ∷ cs) → promised.Answers bench_entries bench_parts cs c answer.Finished → ⊥) where
+    (never : (cs : List Call) (c : Call) → Lent (c ∷ cs) → InOrder bench_entries bench_parts s (c ∷ cs) → promised.Answers bench_entries bench_parts cs c (Ok answer.Finished) → ⊥) where
   -- from the answer r on, no list ends with the finish
   not_finished : (cs : List Call) {left : List ℕ} {r : Decoded} {rs : List Answered} → Reading s cs left → r ≡ next_answer size (record_after bench_entries bench_parts cs) left
       → Answers size r left rs → finishes rs ≡ true → ⊥
@@ -88,7 +90,7 @@ module _ (size : ℕ) (s : List ℕ) (byte : Octets s)
   not_finished cs reading e (ends r left none) f =
       let c = subst (CallOf s cs) (sym e) (call_of size s cs left byte reading) in
       let on = read_on s cs left r reading c in
-      never cs c.call on.octets on.in_order (r.taken, c.told ∙ ap (λ (a : Answer). answered a r.taken) (finish_is r.answer f))
+      never cs c.call on.octets on.in_order (r.taken, c.told ∙ ap (λ (a : Result Answer Refusal). answered a r.taken) (finish_is r.answer f))
 
 -- the list of such a part does not end with the finish
 pub cut_list : (strict : Bool) (size : ℕ) (s rest : List ℕ) (f : ℕ) → Octets s → BeginsWithMaster bench (s ++ rest) f → 0 < length s → length s < f

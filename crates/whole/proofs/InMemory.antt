@@ -13,7 +13,6 @@ use lib.ListN.{length, take, drop, length-drop}
 use lib.Seq.{take_all, drop-drop}
 use Rattle.tools.specs.Bytes.{Octets}
 use Rattle.table.specs.Check.{check_table}
-use Rattle.table.specs.declared.types.Checked.TheVariants.{Passed}
 use Rattle.tag_parse.proofs.Cases.{octets_drop}
 use Rattle.decoder_rules.specs.Record.{with_settings}
 use Rattle.decoder_rules.specs.Moving.{needs_more}
@@ -35,6 +34,8 @@ use Rattle.whole.specs.declared.types.Verdict.TheVariants as verdict
 use Rattle.whole.proofs.Readings.{read_on, read_last}
 use Rattle.whole.proofs.Verdicts.{most, says_whole, ShowsWhole, refused_says, verdict_shows, alone_not_whole}
 use Rattle.whole.proofs.WholeNights.{shown_one, one_shown, by_shown}
+use Rattle.std.specs.Prelude.{Err, Ok, Result}
+use Rattle.decoder_rules.specs.declared.types.Refusal.{Refusal}
 
 -- ---- the answers end before their bound
 
@@ -50,11 +51,11 @@ event_ahead es ps d s byte = by (decode_eof es ps d s).answer refl
     r : Decoded
     r = decode_eof es ps d s
 
-    by : (a : Answer) → r.answer ≡ a → is_event a ≡ true → ahead r.state (drop r.taken s) < ahead d s
-    by (answer.Event e) q i = omega (arith, eof_event_nearer es ps d s byte q, length-drop r.taken s)
-    by (answer.NeedMore missing) q i = absurd (false≢true i)
-    by answer.Finished q i = absurd (false≢true i)
-    by (answer.Refused x) q i = absurd (false≢true i)
+    by : (a : Result Answer Refusal) → r.answer ≡ a → is_event a ≡ true → ahead r.state (drop r.taken s) < ahead d s
+    by (Ok (answer.Event e)) q i = omega (arith, eof_event_nearer es ps d s byte q, length-drop r.taken s)
+    by (Ok (answer.NeedMore missing)) q i = absurd (false≢true i)
+    by (Ok answer.Finished) q i = absurd (false≢true i)
+    by (Err x) q i = absurd (false≢true i)
 
 -- so every bound that is larger gives the same answers
 pub same_answers : (es ps : List ℕ) (n m : ℕ) (d : TagDecoder) (s : List ℕ) → Octets s → ahead d s < n → ahead d s < m → read_from es ps n d s ≡ read_from es ps m d s
@@ -187,15 +188,15 @@ finish_final c p = by c.sized (eqb c.records 1)
     by false o = refl
 
 -- at the last answer
-last_final : (c : Seen) (a : Answer) (d : TagDecoder) → is_event a ≡ false → needs_more a ≡ false → is_final (verdict_at c a d) ≡ true
-last_final c (answer.Event e) d i q = absurd (false≢true (sym i))
-last_final c (answer.NeedMore missing) d i q = absurd (false≢true (sym q))
-last_final c answer.Finished d i q = by c.begun
+last_final : (c : Seen) (a : Result Answer Refusal) (d : TagDecoder) → is_event a ≡ false → needs_more a ≡ false → is_final (verdict_at c a d) ≡ true
+last_final c (Ok (answer.Event e)) d i q = absurd (false≢true (sym i))
+last_final c (Ok (answer.NeedMore missing)) d i q = absurd (false≢true (sym q))
+last_final c (Ok answer.Finished) d i q = by c.begun
   where
     by : (b : Bool) → is_final (cond b (if_front c (finished_as c d.position)) verdict.Empty) ≡ true
     by true = front_final c _ (finish_final c d.position)
     by false = refl
-last_final c (answer.Refused r) d i q = front_final c _ (refused_says is_final (λ n p. refl) (λ p x m. refl) r.error r.place d)
+last_final c (Err r) d i q = front_final c _ (refused_says is_final (λ n p. refl) (λ p x m. refl) r.error r.place d)
 
 -- of all of them, with a bound
 all_final : (es ps : List ℕ) (n : ℕ) (c : Seen) (d : TagDecoder) (s : List ℕ) → Octets s → ahead d s < n → is_final (verdict_after c (all_from es ps d s)) ≡ true
@@ -245,7 +246,7 @@ module _ (strict : Bool) (es ps s : List ℕ) (byte : Octets s) where
 
   module _ (few : length s ≤ most) where
     -- with a table that passes its check, what is called WHOLE is whole
-    pub memory_whole : check_table es ps ≡ Passed → (n m : ℕ) → verdict_there ≡ verdict.Whole n m → IsOneWhole strict es ps s n m
+    pub memory_whole : check_table es ps ≡ Ok tt → (n m : ℕ) → verdict_there ≡ verdict.Whole n m → IsOneWhole strict es ps s n m
     memory_whole checked n m v = shown_one strict es ps s byte few checked n m (whole_shown n m v)
 
     -- and with any table what is whole is called so

@@ -51,6 +51,9 @@ use Rattle.event_list.specs.Run.{joined, NoneEmpty, Runs}
 use Rattle.whole.specs.Checking.{verdict_of}
 use Rattle.whole.specs.declared.types.Verdict.TheVariants.{Whole}
 use Rattle.whole.proofs.WholeNights.{whole_is_whole}
+use Rattle.std.specs.Prelude.{Err, Ok, Result}
+use Rattle.decoder_rules.specs.declared.types.DecodeError.{DecodeError}
+use Rattle.decoder_rules.specs.declared.types.Refusal.{Refusal}
 
 -- ---- the first answer
 
@@ -102,7 +105,7 @@ start_opens e h (Known n) t one k =
 abbrev Opens : Decoded → Type 0
 Opens r = is_root_at0 r.answer r.state ≡ true → has_size r.answer r.state ≡ true → RootOpen (first_end r.state) r.state
 
-header_opens : {t : List Entry} {h : TagHeader} {s : List ℕ} (e : TagDecoder) {a : Action} → e.settings.allow_oversized ≡ false → HeaderExit t e h s a → Opens (move e a)
+header_opens : {t : List Entry} {h : TagHeader} {s : List ℕ} (e : TagDecoder) {a : Result Action DecodeError} → e.settings.allow_oversized ≡ false → HeaderExit t e h s a → Opens (move e a)
 unfolding move
 header_opens e t (exit.misplaced p) i z = absurd (false≢true i)
 header_opens e t (exit.oversized n p y g) i z = absurd (false≢true i)
@@ -149,11 +152,11 @@ module _ (strict : Bool) (es ps : List ℕ) (s : List ℕ) where
     asks : needs_more r.answer ≡ false
     root_open : RootOpen (first_end r.state) r.state
 
-  root_asks : (a : Answer) (d : TagDecoder) → is_root_at0 a d ≡ true → needs_more a ≡ false
-  root_asks (answer.Event e) d i = refl
-  root_asks (answer.NeedMore missing) d i = absurd (false≢true i)
-  root_asks answer.Finished d i = refl
-  root_asks (answer.Refused r) d i = refl
+  root_asks : (a : Result Answer Refusal) (d : TagDecoder) → is_root_at0 a d ≡ true → needs_more a ≡ false
+  root_asks (Ok (answer.Event e)) d i = refl
+  root_asks (Ok (answer.NeedMore missing)) d i = absurd (false≢true i)
+  root_asks (Ok answer.Finished) d i = refl
+  root_asks (Err r) d i = refl
 
   eof_opens : {r : Decoded} → EofExit es ps (begun strict) s r → is_root_at0 r.answer r.state ≡ true → has_size r.answer r.state ≡ true → FirstOpen r
   eof_opens (at.as_decoded q) i z = record { decoded = refl; asks = root_asks (decode es ps (begun strict) s).answer (decode es ps (begun strict) s).state i; root_open = exit_opens (exits es ps (begun strict) s) i z }
@@ -163,33 +166,33 @@ module _ (strict : Bool) (es ps : List ℕ) (s : List ℕ) where
       → has_size (decode_eof es ps (begun strict) s).answer (decode_eof es ps (begun strict) s).state ≡ true → FirstOpen (decode_eof es ps (begun strict) s)
   first_open i z = eof_opens (eof_exits es ps (begun strict) s) i z
 
-root_is_record : (a : Answer) (d : TagDecoder) → is_root_at0 a d ≡ true → is_record a d ≡ true
-root_is_record (answer.Event (event.Start x p)) d i = (both (eqb p 0) (eqb d.open_count 1) i).right
-root_is_record (answer.Event (event.End e)) d i = absurd (false≢true i)
-root_is_record (answer.Event (event.Data x p v)) d i = absurd (false≢true i)
-root_is_record (answer.NeedMore missing) d i = absurd (false≢true i)
-root_is_record answer.Finished d i = absurd (false≢true i)
-root_is_record (answer.Refused r) d i = absurd (false≢true i)
+root_is_record : (a : Result Answer Refusal) (d : TagDecoder) → is_root_at0 a d ≡ true → is_record a d ≡ true
+root_is_record (Ok (answer.Event (event.Start x p))) d i = (both (eqb p 0) (eqb d.open_count 1) i).right
+root_is_record (Ok (answer.Event (event.End e))) d i = absurd (false≢true i)
+root_is_record (Ok (answer.Event (event.Data x p v))) d i = absurd (false≢true i)
+root_is_record (Ok (answer.NeedMore missing)) d i = absurd (false≢true i)
+root_is_record (Ok answer.Finished) d i = absurd (false≢true i)
+root_is_record (Err r) d i = absurd (false≢true i)
 
-root_is_event : (a : Answer) (d : TagDecoder) → is_root_at0 a d ≡ true → is_event a ≡ true
-root_is_event (answer.Event e) d i = refl
-root_is_event (answer.NeedMore missing) d i = absurd (false≢true i)
-root_is_event answer.Finished d i = absurd (false≢true i)
-root_is_event (answer.Refused r) d i = absurd (false≢true i)
+root_is_event : (a : Result Answer Refusal) (d : TagDecoder) → is_root_at0 a d ≡ true → is_event a ≡ true
+root_is_event (Ok (answer.Event e)) d i = refl
+root_is_event (Ok (answer.NeedMore missing)) d i = absurd (false≢true i)
+root_is_event (Ok answer.Finished) d i = absurd (false≢true i)
+root_is_event (Err r) d i = absurd (false≢true i)
 
 -- a root's Start, as an event
-record IsStart (a : Answer) : Type 0 where
+record IsStart (a : Result Answer Refusal) : Type 0 where
   x : ℕ
   p : ℕ
-  is : a ≡ answer.Event (event.Start x p)
+  is : a ≡ Ok (answer.Event (event.Start x p))
 
-root_is_start : (a : Answer) (d : TagDecoder) → is_root_at0 a d ≡ true → IsStart a
-root_is_start (answer.Event (event.Start y q)) d i = record { x = y; p = q; is = refl }
-root_is_start (answer.Event (event.End e)) d i = absurd (false≢true i)
-root_is_start (answer.Event (event.Data x p v)) d i = absurd (false≢true i)
-root_is_start (answer.NeedMore missing) d i = absurd (false≢true i)
-root_is_start answer.Finished d i = absurd (false≢true i)
-root_is_start (answer.Refused r) d i = absurd (false≢true i)
+root_is_start : (a : Result Answer Refusal) (d : TagDecoder) → is_root_at0 a d ≡ true → IsStart a
+root_is_start (Ok (answer.Event (event.Start y q))) d i = record { x = y; p = q; is = refl }
+root_is_start (Ok (answer.Event (event.End e))) d i = absurd (false≢true i)
+root_is_start (Ok (answer.Event (event.Data x p v))) d i = absurd (false≢true i)
+root_is_start (Ok (answer.NeedMore missing)) d i = absurd (false≢true i)
+root_is_start (Ok answer.Finished) d i = absurd (false≢true i)
+root_is_start (Err r) d i = absurd (false≢true i)
 
 -- ---- whole nights of the bench table
 

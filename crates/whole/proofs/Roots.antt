@@ -27,8 +27,6 @@ use Rattle.decoder_rules.specs.EndOfInput.{is_cut, decode_eof}
 use Rattle.decoder_rules.specs.declared.types.Action.{Action}
 use Rattle.decoder_rules.specs.declared.types.Answer.{Answer}
 use Rattle.decoder_rules.specs.declared.types.Answer.TheVariants as answer
-use Rattle.decoder_rules.specs.declared.types.Check.{Check}
-use Rattle.decoder_rules.specs.declared.types.Check.TheVariants.{Pass, Fail}
 use Rattle.decoder_rules.specs.declared.types.Decision.{Decision}
 use Rattle.decoder_rules.specs.declared.types.Decoded.{Decoded}
 use Rattle.decoder_rules.specs.declared.types.DecodeError.TheVariants as error
@@ -44,6 +42,9 @@ use Rattle.whole.specs.Checking.{top_is_sized}
 use Rattle.whole.specs.Night.{is_event, read_from, has_size, all_sized, is_finish, finishes, is_record, records}
 use Rattle.whole.proofs.Readings.{read_on, read_last, finish-later}
 use Rattle.whole.proofs.Turns.{settled_notes_none, eof_settled, finish_no_byte}
+use Rattle.std.specs.Prelude.{Err, Ok, Result, ⊤}
+use Rattle.decoder_rules.specs.declared.types.DecodeError.{DecodeError}
+use Rattle.decoder_rules.specs.declared.types.Refusal.{Refusal}
 
 -- ---- lists of open masters
 
@@ -154,12 +155,12 @@ kept_root t x f d o z =
 
 -- ---- one call with the root open
 
-abbrev passes : Check → Bool
-passes Pass = true
-passes (Fail e) = false
+abbrev passes : Result ⊤ DecodeError → Bool
+passes (Ok _) = true
+passes (Err e) = false
 
 -- an element of known size ends inside the root
-inside_root : (f : ℕ) (d : TagDecoder) (len n : ℕ) → RootOpen f d → step9 d len (Known n) ≡ Pass → d.position + (len + n) ≤ f
+inside_root : (f : ℕ) (d : TagDecoder) (len n : ℕ) → RootOpen f d → step9 d len (Known n) ≡ Ok tt → d.position + (len + n) ≤ f
 unfolding step9 every reaches fits_inside
 inside_root f d len n o p = by (leb (d.position + (len + n)) (end_of o.root)) refl
   where
@@ -167,7 +168,7 @@ inside_root f d len n o p = by (leb (d.position + (len + n)) (end_of o.root)) re
     q = ap passes p
 
     fits : (b : Bool) → leb (d.position + (len + n)) (end_of o.root) ≡ b
-        → passes (cond (b && every (reaches (d.position + (len + n))) o.outermost.others) (cond (d.settings.max_given && ltb d.settings.max_size n) (Fail error.InvalidTagSize) Pass) (Fail error.OversizedChildElement)) ≡ true → d.position + (len + n) ≤ f
+        → passes (cond (b && every (reaches (d.position + (len + n))) o.outermost.others) (cond (d.settings.max_given && ltb d.settings.max_size n) (Err error.InvalidTagSize) (Ok tt)) (Err error.OversizedChildElement)) ≡ true → d.position + (len + n) ≤ f
     fits true e g = let h : d.position + (len + n) ≤ end_of o.root = leb-true _ _ e in omega (arith, o.end)
     fits false e g = absurd (false≢true g)
 
@@ -182,7 +183,7 @@ counted_open f d o =
     record { root = c.root; outermost = c.outermost; known = c.known ∙ o.known; end = c.end ∙ o.end; within = o.within; tested = o.tested }
 
 -- a Start that has a size
-start_stage : (f : ℕ) (d : TagDecoder) (h : TagHeader) (z : EBMLSize) → h.size ≡ z → RootOpen f d → step9 d h.len h.size ≡ Pass
+start_stage : (f : ℕ) (d : TagDecoder) (h : TagHeader) (z : EBMLSize) → h.size ≡ z → RootOpen f d → step9 d h.len h.size ≡ Ok tt
     → top_is_sized (opened (counted (with_notes d (d.position + h.len) d.settled d.finished)) (master_at h.id z d.position h.len)) ≡ true
     → RootOpen f (opened (counted (with_notes d (d.position + h.len) d.settled d.finished)) (master_at h.id z d.position h.len))
 unfolding counted opened with_open with_notes
@@ -216,7 +217,7 @@ start_stage f d h Unknown e o v k = absurd (unsized (eqb (d.open_count + 1) 0) (
         let q' : (get_or (set places d.open_count m) d.open_count no_tag).known ≡ true = rw same at q in
         false≢true (ap (λ (x : OpenTag). x.known) (sym (pushed places d.open_count m q')) ∙ q')
 
-data-stage : (f : ℕ) (d : TagDecoder) (len n : ℕ) → RootOpen f d → step9 d len (Known n) ≡ Pass → RootOpen f (counted (with_notes d (d.position + (len + n)) d.settled d.finished))
+data-stage : (f : ℕ) (d : TagDecoder) (len n : ℕ) → RootOpen f d → step9 d len (Known n) ≡ Ok tt → RootOpen f (counted (with_notes d (d.position + (len + n)) d.settled d.finished))
 unfolding with_notes
 data-stage f d len n o v =
     counted_open f _ (record { root = o.root; outermost = o.outermost; known = o.known; end = o.end; within = inside_root f d len n o v; tested = o.tested })
@@ -230,12 +231,12 @@ handed_stage f d (inr c) = inr (record { reached = c.reached; none_open = c.none
 abbrev Leaves : ℕ → Decoded → Type 0
 Leaves f r = is_event r.answer ≡ true → has_size r.answer r.state ≡ true → Stage f r.state
 
-closing_leaves : {t : List Entry} {k : ℕ} {a : Action} (f : ℕ) (d : TagDecoder) → RootOpen f d → (k ≡ 0 → f ≤ d.position) → Closing t d k a → Leaves f (move d a)
+closing_leaves : {t : List Entry} {k : ℕ} {a : Result Action DecodeError} (f : ℕ) (d : TagDecoder) → RootOpen f d → (k ≡ 0 → f ≤ d.position) → Closing t d k a → Leaves f (move d a)
 unfolding move
 closing_leaves {k = k} f d o h (exit.closes c) i z = closed_stage f d k o h
 closing_leaves f d o h (exit.no_master_lem c) i z = absurd (false≢true i)
 
-header_leaves : {t : List Entry} {h : TagHeader} {s : List ℕ} {a : Action} (f : ℕ) (d : TagDecoder) → RootOpen f d → HeaderExit t d h s a → Leaves f (move d a)
+header_leaves : {t : List Entry} {h : TagHeader} {s : List ℕ} {a : Result Action DecodeError} (f : ℕ) (d : TagDecoder) → RootOpen f d → HeaderExit t d h s a → Leaves f (move d a)
 unfolding move
 header_leaves f d o (exit.misplaced p) i z = absurd (false≢true i)
 header_leaves f d o (exit.oversized n p y g) i z = absurd (false≢true i)
@@ -297,7 +298,7 @@ module _ (es ps : List ℕ) (d : TagDecoder) (s : List ℕ) (byte : Octets s) (s
   root_leaves f o = eof_leaves f o (eof_exits es ps d s)
 
   -- the finish does not come while it is open
-  end_open : {t : List Entry} (f : ℕ) (e : TagDecoder) {r : Decoded} → RootOpen f e → EndExit t e s r → r.answer ≡ answer.Finished → ⊥
+  end_open : {t : List Entry} (f : ℕ) (e : TagDecoder) {r : Decoded} → RootOpen f e → EndExit t e s r → r.answer ≡ Ok answer.Finished → ⊥
   unfolding move
   end_open f e o (at.bytes_left l) q = let z : ◌≡◌ {A = ℕ} 0 1 = cc in absurd_eq z
   end_open f e o (at.master_cut y l) q = let z : ◌≡◌ {A = ℕ} 0 1 = cc in absurd_eq z
@@ -305,7 +306,7 @@ module _ (es ps : List ℕ) (d : TagDecoder) (s : List ℕ) (byte : Octets s) (s
   end_open f e o (at.finishes n m y) q = absurd (omega (arith, some_open o))
   end_open f e o (at.closes_all n m l) q = let z : ◌≡◌ {A = ℕ} 0 1 = cc in absurd_eq z
 
-  open_no_finish : {r : Decoded} (f : ℕ) → RootOpen f d → EofExit es ps d s r → r.answer ≡ answer.Finished → ⊥
+  open_no_finish : {r : Decoded} (f : ℕ) → RootOpen f d → EofExit es ps d s r → r.answer ≡ Ok answer.Finished → ⊥
   open_no_finish f o (at.as_decoded q) g = true≢false (ap is_quiet (sym g) ∙ q)
   open_no_finish f o (at.at_end q x) g = end_open f (with_note es ps d s) (subst (RootOpen f) (sym (settled_notes_none es ps d s byte st)) o) x g
 
@@ -314,10 +315,10 @@ module _ (es ps : List ℕ) (d : TagDecoder) (s : List ℕ) (byte : Octets s) (s
   abbrev Rests : ℕ → Decoded → Type 0
   Rests f r = is_event r.answer ≡ true → is_record r.answer r.state ≡ false → RootClosed f r.state
 
-  closing_none : {t : List Entry} {k : ℕ} {a : Action} {A : Type 0} (e : TagDecoder) → e.open_count ≡ 0 → k < e.open_count → Closing t e k a → A
+  closing_none : {t : List Entry} {k : ℕ} {a : Result Action DecodeError} {A : Type 0} (e : TagDecoder) → e.open_count ≡ 0 → k < e.open_count → Closing t e k a → A
   closing_none e z l c = absurd (omega arith)
 
-  header_rests : {t : List Entry} {h : TagHeader} {a : Action} (f : ℕ) (e : TagDecoder) → RootClosed f e → HeaderExit t e h s a → Rests f (move e a)
+  header_rests : {t : List Entry} {h : TagHeader} {a : Result Action DecodeError} (f : ℕ) (e : TagDecoder) → RootClosed f e → HeaderExit t e h s a → Rests f (move e a)
   unfolding move counted opened with_open with_notes
   header_rests f e c (exit.misplaced p) i z = absurd (false≢true i)
   header_rests f e c (exit.oversized n p y g) i z = absurd (false≢true i)
@@ -370,7 +371,7 @@ module _ (es ps : List ℕ) (d : TagDecoder) (s : List ℕ) (byte : Octets s) (s
   stage_leaves f (inr c) i z n = inr (eof_rests f c (eof_exits es ps d s) i n)
 
   -- at the finish the position is f
-  stage_finish : (f : ℕ) → Stage f d → (decode_eof es ps d s).answer ≡ answer.Finished → d.position ≡ f
+  stage_finish : (f : ℕ) → Stage f d → (decode_eof es ps d s).answer ≡ Ok answer.Finished → d.position ≡ f
   stage_finish f (inl o) q = absurd (open_no_finish f o (eof_exits es ps d s) q)
   stage_finish f (inr c) q = c.reached
 
@@ -414,13 +415,13 @@ module _ (es ps : List ℕ) where
       rest : List Answered
       rest = read_from es ps n R.state (drop R.taken s)
 
-      ended : {a : Answer} → R.answer ≡ a → is_event a ≡ false → is_finish a ≡ true
+      ended : {a : Result Answer Refusal} → R.answer ≡ a → is_event a ≡ false → is_finish a ≡ true
       ended q i = ap is_finish (sym q) ∙ sym (finish_last (answered_by R)) ∙ (rw (read_last es ps n d s (ap is_event q ∙ i)) at e)
 
-      by : (a : Answer) → R.answer ≡ a
+      by : (a : Result Answer Refusal) → R.answer ≡ a
           → (Stage f R.state → all_sized rest ≡ true → records rest ≡ 0 → finishes rest ≡ true → R.state.position + length (drop R.taken s) ≡ f)
           → d.position + length s ≡ f
-      by (answer.Event x) q more =
+      by (Ok (answer.Event x)) q more =
           let on = read_on es ps n d s (ap is_event q) in
           let w = sized-apart (answered_by R) rest (rw on at z) in
           let k = no_record (answered_by R) rest (rw on at r) in
@@ -428,9 +429,9 @@ module _ (es ps : List ℕ) where
           let facts = eof_facts es ps d s byte in
           let done = more (stage_leaves es ps d s byte st f g (ap is_event q) w.sized_first k.0) w.sized_rest k.1 later.0 in
           omega (arith, done, facts.moves, facts.within, length-drop R.taken s)
-      by (answer.NeedMore missing) q more = absurd (false≢true (ended q refl))
-      by answer.Finished q more = omega (arith, stage_finish es ps d s byte st f g q, finish_no_byte es ps d s byte q)
-      by (answer.Refused x) q more = absurd (false≢true (ended q refl))
+      by (Ok (answer.NeedMore missing)) q more = absurd (false≢true (ended q refl))
+      by (Ok answer.Finished) q more = omega (arith, stage_finish es ps d s byte st f g q, finish_no_byte es ps d s byte q)
+      by (Err x) q more = absurd (false≢true (ended q refl))
 
   -- with any records, not before f
   pub ends_behind : (n f : ℕ) (d : TagDecoder) (s : List ℕ) → Octets s → d.settled ≡ true → RootOpen f d → all_sized (read_from es ps n d s) ≡ true
@@ -446,23 +447,23 @@ module _ (es ps : List ℕ) where
       rest : List Answered
       rest = read_from es ps n R.state (drop R.taken s)
 
-      ended : {a : Answer} → R.answer ≡ a → is_event a ≡ false → is_finish a ≡ true
+      ended : {a : Result Answer Refusal} → R.answer ≡ a → is_event a ≡ false → is_finish a ≡ true
       ended q i = ap is_finish (sym q) ∙ sym (finish_last (answered_by R)) ∙ (rw (read_last es ps n d s (ap is_event q ∙ i)) at e)
 
       from : Stage f R.state → (RootOpen f R.state → f ≤ R.state.position + length (drop R.taken s)) → f ≤ R.state.position + length (drop R.taken s)
       from (inl o) k = k o
       from (inr c) k = omega (arith, c.reached)
 
-      by : (a : Answer) → R.answer ≡ a
+      by : (a : Result Answer Refusal) → R.answer ≡ a
           → (RootOpen f R.state → all_sized rest ≡ true → finishes rest ≡ true → f ≤ R.state.position + length (drop R.taken s))
           → f ≤ d.position + length s
-      by (answer.Event x) q more =
+      by (Ok (answer.Event x)) q more =
           let on = read_on es ps n d s (ap is_event q) in
           let w = sized-apart (answered_by R) rest (rw on at z) in
           let later = finish-later (answered_by R) rest (ap is_event q) (rw on at e) in
           let facts = eof_facts es ps d s byte in
           let done = from (root_leaves es ps d s byte st f g (ap is_event q) w.sized_first) (λ o. more o w.sized_rest later.0) in
           omega (arith, done, facts.moves, facts.within, length-drop R.taken s)
-      by (answer.NeedMore missing) q more = absurd (false≢true (ended q refl))
-      by answer.Finished q more = absurd (open_no_finish es ps d s byte st f g (eof_exits es ps d s) q)
-      by (answer.Refused x) q more = absurd (false≢true (ended q refl))
+      by (Ok (answer.NeedMore missing)) q more = absurd (false≢true (ended q refl))
+      by (Ok answer.Finished) q more = absurd (open_no_finish es ps d s byte st f g (eof_exits es ps d s) q)
+      by (Err x) q more = absurd (false≢true (ended q refl))

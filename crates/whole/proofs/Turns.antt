@@ -11,7 +11,6 @@ use Rattle.basics.proofs.Bools.{absurd_eq}
 use Rattle.tools.specs.Bytes.{Octets}
 use Rattle.table.specs.Check.{check_table, only_ids}
 use Rattle.table.specs.Table.{Entry, table_of, data_type_of, path_of, is_master, is_typed}
-use Rattle.table.specs.declared.types.Checked.TheVariants.{Passed}
 use Rattle.table.specs.declared.types.TagDataType.{TagDataType}
 use Rattle.table.specs.declared.types.TagDataType.TheVariants as type
 use Rattle.table.proofs.Consequences.{master_of_ids_lem}
@@ -29,8 +28,6 @@ use Rattle.decoder_rules.specs.declared.types.Answer.TheVariants as answer
 use Rattle.decoder_rules.specs.declared.types.Decision.{Decision}
 use Rattle.decoder_rules.specs.declared.types.Decoded.{Decoded}
 use Rattle.decoder_rules.specs.declared.types.Event.TheVariants as event
-use Rattle.decoder_rules.specs.declared.types.Note.{Note}
-use Rattle.decoder_rules.specs.declared.types.Note.TheVariants.{NoNote, Settle}
 use Rattle.decoder_rules.specs.declared.types.TagDecoder.{TagDecoder}
 use Rattle.decoder_rules.proofs.EndExits as at
 use Rattle.decoder_rules.proofs.EndExits.{is_quiet, EndExit, end_keeps, EofExit, eof_exits}
@@ -38,6 +35,10 @@ use Rattle.decoder_rules.proofs.Exits as exit
 use Rattle.decoder_rules.proofs.Exits.{Closing, HeaderExit, Exit, exits, settling_exit}
 use Rattle.decoder_rules.proofs.MoveLaws.{with_note, noted_waiting_count, noted_finished, decode_settled, decode_finished}
 use Rattle.tag_decoder_laws.proofs.Settling.{settles_when}
+use Rattle.std.specs.Prelude.{Err, None, Ok, Option, Result, Some}
+use Rattle.decoder_rules.specs.declared.types.DecodeError.{DecodeError}
+use Rattle.table.specs.declared.types.Path.{Path}
+use Rattle.decoder_rules.specs.declared.types.Refusal.{Refusal}
 
 -- ---- masters that are open or wait for their End
 
@@ -47,23 +48,23 @@ unended d = d.open_count + d.waiting_count
 
 -- by what is answered, with n of them before and m after, t bytes taken, and w Ends that wait: a Start is one more,
 -- takes bytes and comes where no End waits; an End is one less
-abbrev pub Balance : Answer → ℕ → ℕ → ℕ → ℕ → Type 0
-Balance (answer.Event (event.Start x p)) n m t w = (m ≡ n + 1) × ((0 < t) × (w ≡ 0))
-Balance (answer.Event (event.End e)) n m t w = m + 1 ≡ n
-Balance (answer.Event (event.Data x p v)) n m t w = m ≡ n
-Balance (answer.NeedMore missing) n m t w = Unit {0}
-Balance answer.Finished n m t w = Unit {0}
-Balance (answer.Refused r) n m t w = Unit {0}
+abbrev pub Balance : Result Answer Refusal → ℕ → ℕ → ℕ → ℕ → Type 0
+Balance (Ok (answer.Event (event.Start x p))) n m t w = (m ≡ n + 1) × ((0 < t) × (w ≡ 0))
+Balance (Ok (answer.Event (event.End e))) n m t w = m + 1 ≡ n
+Balance (Ok (answer.Event (event.Data x p v))) n m t w = m ≡ n
+Balance (Ok (answer.NeedMore missing)) n m t w = Unit {0}
+Balance (Ok answer.Finished) n m t w = Unit {0}
+Balance (Err r) n m t w = Unit {0}
 
 abbrev pub Balanced : TagDecoder → Decoded → Type 0
 Balanced d r = Balance r.answer (unended d) (unended r.state) r.taken r.state.waiting_count
 
-closing_balanced : {t : List Entry} {e : TagDecoder} {k : ℕ} {a : Action} → e.waiting_count ≡ 0 → k < e.open_count → Closing t e k a → Balanced e (move e a)
+closing_balanced : {t : List Entry} {e : TagDecoder} {k : ℕ} {a : Result Action DecodeError} → e.waiting_count ≡ 0 → k < e.open_count → Closing t e k a → Balanced e (move e a)
 unfolding move with_open with_waiting closed_to
 closing_balanced w l (exit.closes c) = omega arith
 closing_balanced w l (exit.no_master_lem c) = tt
 
-header_balanced : {t : List Entry} {e : TagDecoder} {h : TagHeader} {s : List ℕ} {a : Action} → e.waiting_count ≡ 0 → 0 < h.len → HeaderExit t e h s a → Balanced e (move e a)
+header_balanced : {t : List Entry} {e : TagDecoder} {h : TagHeader} {s : List ℕ} {a : Result Action DecodeError} → e.waiting_count ≡ 0 → 0 < h.len → HeaderExit t e h s a → Balanced e (move e a)
 unfolding move counted with_open with_notes opened
 header_balanced w some (exit.misplaced p) = tt
 header_balanced w some (exit.oversized n p z f) = tt
@@ -117,10 +118,10 @@ module _ (es ps : List ℕ) (d : TagDecoder) (s : List ℕ) (byte : Octets s) wh
   end_balanced w (at.finishes n m z) = tt
   end_balanced w (at.closes_all n m l) = omega arith
 
-  note_none : (n : Note) → (decide es ps d s).note ≡ n → d.settled ≡ true → noted ps d n ≡ d
+  note_none : (n : Option Path) → (decide es ps d s).note ≡ n → d.settled ≡ true → noted ps d n ≡ d
   unfolding noted
-  note_none NoNote q k = refl
-  note_none (Settle path) q k = absurd (false≢true (sym (settles_when (table_of es ps) d (settling_exit es ps d s (exits es ps d s) q).h (settling_exit es ps d s (exits es ps d s) q).settling).0 ∙ k))
+  note_none None q k = refl
+  note_none (Some path) q k = absurd (false≢true (sym (settles_when (table_of es ps) d (settling_exit es ps d s (exits es ps d s) q).h (settling_exit es ps d s (exits es ps d s) q).settling).0 ∙ k))
 
   -- a settled record stays as it is before the move
   pub settled_notes_none : d.settled ≡ true → with_note es ps d s ≡ d
@@ -153,7 +154,7 @@ module _ (es ps : List ℕ) (d : TagDecoder) (s : List ℕ) (byte : Octets s) wh
 
   -- ---- the finish
 
-  end_finish : {t : List Entry} {e : TagDecoder} {r : Decoded} → EndExit t e s r → r.answer ≡ answer.Finished → length s ≡ 0
+  end_finish : {t : List Entry} {e : TagDecoder} {r : Decoded} → EndExit t e s r → r.answer ≡ Ok answer.Finished → length s ≡ 0
   unfolding move
   end_finish (at.bytes_left l) q = let z : ◌≡◌ {A = ℕ} 0 1 = cc in absurd_eq z
   end_finish (at.master_cut z l) q = z
@@ -161,12 +162,12 @@ module _ (es ps : List ℕ) (d : TagDecoder) (s : List ℕ) (byte : Octets s) wh
   end_finish (at.finishes n m z) q = n.no_byte
   end_finish (at.closes_all n m l) q = n.no_byte
 
-  exit_finish : {r : Decoded} → EofExit es ps d s r → r.answer ≡ answer.Finished → length s ≡ 0
+  exit_finish : {r : Decoded} → EofExit es ps d s r → r.answer ≡ Ok answer.Finished → length s ≡ 0
   exit_finish (at.as_decoded q) f = absurd (true≢false (ap is_quiet (sym f) ∙ q))
   exit_finish (at.at_end q x) f = end_finish x f
 
   -- the finish comes where no byte is left
-  pub finish_no_byte : (decode_eof es ps d s).answer ≡ answer.Finished → length s ≡ 0
+  pub finish_no_byte : (decode_eof es ps d s).answer ≡ Ok answer.Finished → length s ≡ 0
   finish_no_byte f = exit_finish (eof_exits es ps d s) f
 
   end_finished : {t : List Entry} {e : TagDecoder} {r : Decoded} → EndExit t e s r → r.state.finished ≡ true → (e.finished ≡ true) ⊎ (length s ≡ 0)
@@ -190,15 +191,15 @@ module _ (es ps : List ℕ) (d : TagDecoder) (s : List ℕ) (byte : Octets s) wh
 
 -- ---- a Start settles the record
 
-module _ (es ps : List ℕ) (checked : check_table es ps ≡ Passed) (d : TagDecoder) (s : List ℕ) (byte : Octets s) where
+module _ (es ps : List ℕ) (checked : check_table es ps ≡ (Ok tt)) (d : TagDecoder) (s : List ℕ) (byte : Octets s) where
   -- whether an answer is a Start
-  abbrev is_start : Answer → Bool
-  is_start (answer.Event (event.Start x p)) = true
-  is_start (answer.Event (event.End e)) = false
-  is_start (answer.Event (event.Data x p v)) = false
-  is_start (answer.NeedMore missing) = false
-  is_start answer.Finished = false
-  is_start (answer.Refused r) = false
+  abbrev is_start : Result Answer Refusal → Bool
+  is_start (Ok (answer.Event (event.Start x p))) = true
+  is_start (Ok (answer.Event (event.End e))) = false
+  is_start (Ok (answer.Event (event.Data x p v))) = false
+  is_start (Ok (answer.NeedMore missing)) = false
+  is_start (Ok answer.Finished) = false
+  is_start (Err r) = false
 
   master_typed : (k : TagDataType) → is_master k ≡ true → (k ≡ type.Master) × (is_typed k ≡ true)
   unfolding is_master is_typed
@@ -222,7 +223,7 @@ module _ (es ps : List ℕ) (checked : check_table es ps ≡ Passed) (d : TagDec
       let t = master_typed h.kind m in
       settles_or h t.1 (master_of_ids_lem (table_of es ps) (passed_gives es ps checked) h.id (sym k ∙ t.0))
 
-  header_settles : (h : TagHeader) {a : Action} → h.kind ≡ data_type_of (table_of es ps) h.id → HeaderExit (table_of es ps) (noted ps d (step7 (table_of es ps) d h)) h s a
+  header_settles : (h : TagHeader) {a : Result Action DecodeError} → h.kind ≡ data_type_of (table_of es ps) h.id → HeaderExit (table_of es ps) (noted ps d (step7 (table_of es ps) d h)) h s a
       → is_start (move (noted ps d (step7 (table_of es ps) d h)) a).answer ≡ true → (d.settled || is_settle (step7 (table_of es ps) d h)) ≡ true
   unfolding move
   header_settles h k (exit.misplaced p) q = absurd (false≢true q)
@@ -265,5 +266,5 @@ module _ (es ps : List ℕ) (checked : check_table es ps ≡ Passed) (d : TagDec
   eof_start_settles (at.at_end q x) k = absurd (false≢true (sym (end_no_start x) ∙ k))
 
   -- a record is settled after a Start
-  pub start_settles : {x p : ℕ} → (decode_eof es ps d s).answer ≡ answer.Event (event.Start x p) → (decode_eof es ps d s).state.settled ≡ true
+  pub start_settles : {x p : ℕ} → (decode_eof es ps d s).answer ≡ Ok (answer.Event (event.Start x p)) → (decode_eof es ps d s).state.settled ≡ true
   start_settles q = eof_start_settles (eof_exits es ps d s) (ap is_start q)

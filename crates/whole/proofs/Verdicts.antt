@@ -22,6 +22,9 @@ use Rattle.whole.specs.declared.types.Root.{Root}
 use Rattle.whole.specs.declared.types.Seen.{Seen}
 use Rattle.whole.specs.declared.types.Verdict.{Verdict}
 use Rattle.whole.specs.declared.types.Verdict.TheVariants as verdict
+use Rattle.std.specs.Prelude.{Err, Ok, Result}
+use Rattle.decoder_rules.specs.declared.types.Refusal.{Refusal}
+use Rattle.std.specs.Prelude.{Option}
 
 -- ---- counts
 
@@ -44,21 +47,21 @@ unfoldable pub seen_all : Seen → List Answered → Seen
 seen_all c [] = c
 seen_all c (a ∷ l) = seen_all (seen_after c a.answer a.after) l
 
-begun-stays : (c : Seen) (a : Answer) (d : TagDecoder) → c.begun ≡ true → (seen_after c a d).begun ≡ true
-begun-stays c (answer.Event (event.Start x p)) d b = refl
-begun-stays c (answer.Event (event.End e)) d b = refl
-begun-stays c (answer.Event (event.Data x p v)) d b = refl
-begun-stays c (answer.NeedMore missing) d b = b
-begun-stays c answer.Finished d b = b
-begun-stays c (answer.Refused r) d b = b
+begun-stays : (c : Seen) (a : Result Answer Refusal) (d : TagDecoder) → c.begun ≡ true → (seen_after c a d).begun ≡ true
+begun-stays c (Ok (answer.Event (event.Start x p))) d b = refl
+begun-stays c (Ok (answer.Event (event.End e))) d b = refl
+begun-stays c (Ok (answer.Event (event.Data x p v))) d b = refl
+begun-stays c (Ok (answer.NeedMore missing)) d b = b
+begun-stays c (Ok answer.Finished) d b = b
+begun-stays c (Err r) d b = b
 
-front_stays : (c : Seen) (a : Answer) (d : TagDecoder) → c.begun ≡ true → (seen_after c a d).front ≡ c.front
-front_stays c (answer.Event (event.Start x p)) d b = rw b
-front_stays c (answer.Event (event.End e)) d b = rw b
-front_stays c (answer.Event (event.Data x p v)) d b = rw b
-front_stays c (answer.NeedMore missing) d b = refl
-front_stays c answer.Finished d b = refl
-front_stays c (answer.Refused r) d b = refl
+front_stays : (c : Seen) (a : Result Answer Refusal) (d : TagDecoder) → c.begun ≡ true → (seen_after c a d).front ≡ c.front
+front_stays c (Ok (answer.Event (event.Start x p))) d b = rw b
+front_stays c (Ok (answer.Event (event.End e))) d b = rw b
+front_stays c (Ok (answer.Event (event.Data x p v))) d b = rw b
+front_stays c (Ok (answer.NeedMore missing)) d b = refl
+front_stays c (Ok answer.Finished) d b = refl
+front_stays c (Err r) d b = refl
 
 and-true : (b : Bool) → (b && true) ≡ b
 and-true true = refl
@@ -68,32 +71,32 @@ and_assoc : (a b c : Bool) → ((a && b) && c) ≡ (a && (b && c))
 and_assoc true b c = refl
 and_assoc false b c = refl
 
-sized_one : (c : Seen) (a : Answer) (d : TagDecoder) → (seen_after c a d).sized ≡ (c.sized && has_size a d)
-sized_one c (answer.Event (event.Start x p)) d = refl
-sized_one c (answer.Event (event.End e)) d = sym (and-true c.sized)
-sized_one c (answer.Event (event.Data x p v)) d = sym (and-true c.sized)
-sized_one c (answer.NeedMore missing) d = sym (and-true c.sized)
-sized_one c answer.Finished d = sym (and-true c.sized)
-sized_one c (answer.Refused r) d = sym (and-true c.sized)
+sized_one : (c : Seen) (a : Result Answer Refusal) (d : TagDecoder) → (seen_after c a d).sized ≡ (c.sized && has_size a d)
+sized_one c (Ok (answer.Event (event.Start x p))) d = refl
+sized_one c (Ok (answer.Event (event.End e))) d = sym (and-true c.sized)
+sized_one c (Ok (answer.Event (event.Data x p v))) d = sym (and-true c.sized)
+sized_one c (Ok (answer.NeedMore missing)) d = sym (and-true c.sized)
+sized_one c (Ok answer.Finished) d = sym (and-true c.sized)
+sized_one c (Err r) d = sym (and-true c.sized)
 
 more_none : (n x : ℕ) → n ≡ min x most → n ≡ min (x + 0) most
 more_none n x e = e ∙ ap (λ (y : ℕ). min y most) (omega arith)
 
-records_one : (c : Seen) (a : Answer) (d : TagDecoder) (x : ℕ) → c.records ≡ min x most → (seen_after c a d).records ≡ min (x + cond (is_record a d) 1 0) most
-records_one c (answer.Event (event.Start y p)) d x e = counted_one (eqb d.open_count 1) c.records x e
-records_one c (answer.Event (event.End y)) d x e = more_none c.records x e
-records_one c (answer.Event (event.Data y p v)) d x e = counted_one (eqb d.open_count 0) c.records x e
-records_one c (answer.NeedMore missing) d x e = more_none c.records x e
-records_one c answer.Finished d x e = more_none c.records x e
-records_one c (answer.Refused r) d x e = more_none c.records x e
+records_one : (c : Seen) (a : Result Answer Refusal) (d : TagDecoder) (x : ℕ) → c.records ≡ min x most → (seen_after c a d).records ≡ min (x + cond (is_record a d) 1 0) most
+records_one c (Ok (answer.Event (event.Start y p))) d x e = counted_one (eqb d.open_count 1) c.records x e
+records_one c (Ok (answer.Event (event.End y))) d x e = more_none c.records x e
+records_one c (Ok (answer.Event (event.Data y p v))) d x e = counted_one (eqb d.open_count 0) c.records x e
+records_one c (Ok (answer.NeedMore missing)) d x e = more_none c.records x e
+records_one c (Ok answer.Finished) d x e = more_none c.records x e
+records_one c (Err r) d x e = more_none c.records x e
 
-feeds_one : (c : Seen) (a : Answer) (d : TagDecoder) (x : ℕ) → c.feeds ≡ min x most → (seen_after c a d).feeds ≡ min (x + cond (is_feed a d) 1 0) most
-feeds_one c (answer.Event (event.Start y p)) d x e = counted_one (eqb d.open_count 2) c.feeds x e
-feeds_one c (answer.Event (event.End y)) d x e = more_none c.feeds x e
-feeds_one c (answer.Event (event.Data y p v)) d x e = more_none c.feeds x e
-feeds_one c (answer.NeedMore missing) d x e = more_none c.feeds x e
-feeds_one c answer.Finished d x e = more_none c.feeds x e
-feeds_one c (answer.Refused r) d x e = more_none c.feeds x e
+feeds_one : (c : Seen) (a : Result Answer Refusal) (d : TagDecoder) (x : ℕ) → c.feeds ≡ min x most → (seen_after c a d).feeds ≡ min (x + cond (is_feed a d) 1 0) most
+feeds_one c (Ok (answer.Event (event.Start y p))) d x e = counted_one (eqb d.open_count 2) c.feeds x e
+feeds_one c (Ok (answer.Event (event.End y))) d x e = more_none c.feeds x e
+feeds_one c (Ok (answer.Event (event.Data y p v))) d x e = more_none c.feeds x e
+feeds_one c (Ok (answer.NeedMore missing)) d x e = more_none c.feeds x e
+feeds_one c (Ok answer.Finished) d x e = more_none c.feeds x e
+feeds_one c (Err r) d x e = more_none c.feeds x e
 
 -- the same of all of them
 front_all : (c : Seen) (l : List Answered) → c.begun ≡ true → (seen_all c l).front ≡ c.front
@@ -144,7 +147,7 @@ says_whole (verdict.More k n m) = false
 says_whole verdict.NotEnded = false
 
 -- a refusal is told as one, or as a cut
-pub refused_says : (says : Verdict → Bool) {b : Bool} → ((n p : ℕ) → says (verdict.Refused n p) ≡ b) → ((p : ℕ) (r : Root) (m : ℕ) → says (verdict.Cut p r m) ≡ b)
+pub refused_says : (says : Verdict → Bool) {b : Bool} → ((n p : ℕ) → says (verdict.Refused n p) ≡ b) → ((p : ℕ) (r : Option Root) (m : ℕ) → says (verdict.Cut p r m) ≡ b)
     → (e : DecodeError) (p : ℕ) (d : TagDecoder) → says (refused_as e p d) ≡ b
 refused_says says refused cut error.TableShape p d = refused _ p
 refused_says says refused cut error.BadState p d = refused _ p
@@ -174,24 +177,24 @@ front_not_whole c v e = by c.front
     by false = refl
 
 -- any answer but the finish is not WHOLE
-last_not_whole : (c : Seen) (a : Answer) (d : TagDecoder) → is_finish a ≡ false → says_whole (verdict_at c a d) ≡ false
-last_not_whole c (answer.Event e) d f = refl
-last_not_whole c (answer.NeedMore missing) d f = front_not_whole c (verdict.TooLarge d.position) refl
-last_not_whole c answer.Finished d f = absurd (true≢false f)
-last_not_whole c (answer.Refused r) d f = front_not_whole c (refused_as r.error r.place d) (refused_not_whole r.error r.place d)
+last_not_whole : (c : Seen) (a : Result Answer Refusal) (d : TagDecoder) → is_finish a ≡ false → says_whole (verdict_at c a d) ≡ false
+last_not_whole c (Ok (answer.Event e)) d f = refl
+last_not_whole c (Ok (answer.NeedMore missing)) d f = front_not_whole c (verdict.TooLarge d.position) refl
+last_not_whole c (Ok answer.Finished) d f = absurd (true≢false f)
+last_not_whole c (Err r) d f = front_not_whole c (refused_as r.error r.place d) (refused_not_whole r.error r.place d)
 
 -- the finish is, where the tests say so
-finish_verdict : (c : Seen) (a : Answer) (d : TagDecoder) → c.begun ≡ true → is_finish a ≡ true → verdict_at c a d ≡ if_front c (finished_as c d.position)
-finish_verdict c (answer.Event e) d b f = absurd (false≢true f)
-finish_verdict c (answer.NeedMore missing) d b f = absurd (false≢true f)
-finish_verdict c answer.Finished d b f = rw b
-finish_verdict c (answer.Refused r) d b f = absurd (false≢true f)
+finish_verdict : (c : Seen) (a : Result Answer Refusal) (d : TagDecoder) → c.begun ≡ true → is_finish a ≡ true → verdict_at c a d ≡ if_front c (finished_as c d.position)
+finish_verdict c (Ok (answer.Event e)) d b f = absurd (false≢true f)
+finish_verdict c (Ok (answer.NeedMore missing)) d b f = absurd (false≢true f)
+finish_verdict c (Ok answer.Finished) d b f = rw b
+finish_verdict c (Err r) d b f = absurd (false≢true f)
 
-finish-keeps : (c : Seen) (a : Answer) (d : TagDecoder) → is_finish a ≡ true → seen_after c a d ≡ c
-finish-keeps c (answer.Event e) d f = absurd (false≢true f)
-finish-keeps c (answer.NeedMore missing) d f = absurd (false≢true f)
-finish-keeps c answer.Finished d f = refl
-finish-keeps c (answer.Refused r) d f = absurd (false≢true f)
+finish-keeps : (c : Seen) (a : Result Answer Refusal) (d : TagDecoder) → is_finish a ≡ true → seen_after c a d ≡ c
+finish-keeps c (Ok (answer.Event e)) d f = absurd (false≢true f)
+finish-keeps c (Ok (answer.NeedMore missing)) d f = absurd (false≢true f)
+finish-keeps c (Ok answer.Finished) d f = refl
+finish-keeps c (Err r) d f = absurd (false≢true f)
 
 -- without the finish the verdict is not WHOLE
 unfinished_not_whole : (c : Seen) (l : List Answered) → finishes l ≡ false → says_whole (verdict_after c l) ≡ false
@@ -218,21 +221,21 @@ pub record ShowsWhole (l : List Answered) (n m : ℕ) : Type 0 where
   pub feed_count : n ≡ min (feeds l) most
   pub byte_count : m ≡ last_position l
 
-event_begins : (c : Seen) (a : Answer) (d : TagDecoder) → is_event a ≡ true → (seen_after c a d).begun ≡ true
-event_begins c (answer.Event (event.Start x p)) d e = refl
-event_begins c (answer.Event (event.End x)) d e = refl
-event_begins c (answer.Event (event.Data x p v)) d e = refl
-event_begins c (answer.NeedMore missing) d e = absurd (false≢true e)
-event_begins c answer.Finished d e = absurd (false≢true e)
-event_begins c (answer.Refused r) d e = absurd (false≢true e)
+event_begins : (c : Seen) (a : Result Answer Refusal) (d : TagDecoder) → is_event a ≡ true → (seen_after c a d).begun ≡ true
+event_begins c (Ok (answer.Event (event.Start x p))) d e = refl
+event_begins c (Ok (answer.Event (event.End x))) d e = refl
+event_begins c (Ok (answer.Event (event.Data x p v))) d e = refl
+event_begins c (Ok (answer.NeedMore missing)) d e = absurd (false≢true e)
+event_begins c (Ok answer.Finished) d e = absurd (false≢true e)
+event_begins c (Err r) d e = absurd (false≢true e)
 
-first_front : (a : Answer) (d : TagDecoder) → is_event a ≡ true → (seen_after at_start a d).front ≡ is_root_at0 a d
-first_front (answer.Event (event.Start x p)) d e = refl
-first_front (answer.Event (event.End x)) d e = refl
-first_front (answer.Event (event.Data x p v)) d e = refl
-first_front (answer.NeedMore missing) d e = absurd (false≢true e)
-first_front answer.Finished d e = absurd (false≢true e)
-first_front (answer.Refused r) d e = absurd (false≢true e)
+first_front : (a : Result Answer Refusal) (d : TagDecoder) → is_event a ≡ true → (seen_after at_start a d).front ≡ is_root_at0 a d
+first_front (Ok (answer.Event (event.Start x p))) d e = refl
+first_front (Ok (answer.Event (event.End x))) d e = refl
+first_front (Ok (answer.Event (event.Data x p v))) d e = refl
+first_front (Ok (answer.NeedMore missing)) d e = absurd (false≢true e)
+first_front (Ok answer.Finished) d e = absurd (false≢true e)
+first_front (Err r) d e = absurd (false≢true e)
 
 -- the verdict on an event and then more answers, the last of them the finish
 module _ (a : Answered) (l : List Answered) (first : is_event a.answer ≡ true) where
@@ -315,8 +318,8 @@ pub alone_not_whole : (a : Answered) → says_whole (verdict_of (a ∷ [])) ≡ 
 unfolding verdict_after
 alone_not_whole a = by a.answer refl
   where
-    by : (x : Answer) → a.answer ≡ x → says_whole (verdict_at at_start x a.after) ≡ false
-    by (answer.Event e) q = refl
-    by (answer.NeedMore missing) q = refl
-    by answer.Finished q = refl
-    by (answer.Refused r) q = refused_not_whole r.error r.place a.after
+    by : (x : Result Answer Refusal) → a.answer ≡ x → says_whole (verdict_at at_start x a.after) ≡ false
+    by (Ok (answer.Event e)) q = refl
+    by (Ok (answer.NeedMore missing)) q = refl
+    by (Ok answer.Finished) q = refl
+    by (Err r) q = refused_not_whole r.error r.place a.after

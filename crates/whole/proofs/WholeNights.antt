@@ -11,7 +11,6 @@ use lib.ListN.{length, replicate}
 use Rattle.tools.specs.Bytes.{Octets}
 use Rattle.table.specs.BenchTable.{bench_entries, bench_parts}
 use Rattle.table.specs.Check.{check_table}
-use Rattle.table.specs.declared.types.Checked.TheVariants.{Passed}
 use Rattle.table.proofs.Examples.{checks}
 use Rattle.decoder_rules.specs.Record.{fresh, with_settings}
 use Rattle.decoder_rules.specs.declared.types.Answer.{Answer}
@@ -29,6 +28,8 @@ use Rattle.whole.specs.Night.{is_event, read_from, is_root_at0, has_front, finis
 use Rattle.whole.specs.declared.types.Verdict.TheVariants.{Whole}
 use Rattle.whole.proofs.Readings.{front_starts, front_not_empty, finish-later, bytes_all, feeds_few, run_reads_all, finish_asks_no_more}
 use Rattle.whole.proofs.Verdicts.{most, last_position, says_whole, ShowsWhole, verdict_shows, shows_verdict, alone_not_whole}
+use Rattle.std.specs.Prelude.{Err, Ok, Result}
+use Rattle.decoder_rules.specs.declared.types.Refusal.{Refusal}
 
 -- ---- of the answers to an input
 
@@ -48,7 +49,7 @@ module _ (strict : Bool) (es ps s : List ℕ) (byte : Octets s) (few : length s 
   feeds_are = omega (arith, feeds_few es ps (256 * length s + 129) (begun strict) s byte)
 
   -- answers that show a whole night, with a table that passes its check
-  pub shown_one : check_table es ps ≡ Passed → (n m : ℕ) → ShowsWhole all n m → IsOneWhole strict es ps s n m
+  pub shown_one : check_table es ps ≡ Ok tt → (n m : ℕ) → ShowsWhole all n m → IsOneWhole strict es ps s n m
   shown_one checked n m w =
       record {
         whole =
@@ -99,13 +100,13 @@ shown_by (ends r s none) n m v = absurd (false≢true (sym (alone_not_whole (ans
 front_event : (a : Answered) → is_root_at0 a.answer a.after ≡ true → is_event a.answer ≡ true
 front_event a f = by a.answer f
   where
-    by : (x : Answer) → is_root_at0 x a.after ≡ true → is_event x ≡ true
-    by (answer.Event (event.Start x p)) g = refl
-    by (answer.Event (event.End e)) g = absurd (false≢true g)
-    by (answer.Event (event.Data x p v)) g = absurd (false≢true g)
-    by (answer.NeedMore missing) g = absurd (false≢true g)
-    by answer.Finished g = absurd (false≢true g)
-    by (answer.Refused r) g = absurd (false≢true g)
+    by : (x : Result Answer Refusal) → is_root_at0 x a.after ≡ true → is_event x ≡ true
+    by (Ok (answer.Event (event.Start x p))) g = refl
+    by (Ok (answer.Event (event.End e))) g = absurd (false≢true g)
+    by (Ok (answer.Event (event.Data x p v))) g = absurd (false≢true g)
+    by (Ok (answer.NeedMore missing)) g = absurd (false≢true g)
+    by (Ok answer.Finished) g = absurd (false≢true g)
+    by (Err r) g = absurd (false≢true g)
 
 -- the verdict on answers that show it
 pub by_shown : (l : List Answered) (n m : ℕ) → ShowsWhole l n m → verdict_of l ≡ Whole n m

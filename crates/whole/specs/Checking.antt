@@ -1,5 +1,5 @@
 -- What the check keeps of the answers to an input, one after another, and its verdict at the last of them.
-use Rattle.std.specs.Prelude.{ℕ, ◌+◌, ◌-◌, ◌^◌, Bool, true, false, cond, ◌&&◌, List, [], ◌∷◌, ltb, eqb, get_or}
+use Rattle.std.specs.Prelude.{ℕ, ◌+◌, ◌-◌, ◌^◌, Bool, true, false, cond, ◌&&◌, List, [], ◌∷◌, ltb, eqb, get_or, Err, None, Ok, Option, Result, Some}
 use Rattle.spec_util.specs.Walk.{most_open, no_tag}
 use Rattle.spec_util.specs.declared.types.OpenTag.{OpenTag}
 use Rattle.decoder_rules.specs.Numbers.{error_number}
@@ -8,17 +8,14 @@ use Rattle.decoder_rules.specs.declared.types.Answer.TheVariants as answer
 use Rattle.decoder_rules.specs.declared.types.DecodeError.{DecodeError}
 use Rattle.decoder_rules.specs.declared.types.DecodeError.TheVariants as error
 use Rattle.decoder_rules.specs.declared.types.Event.TheVariants as event
-use Rattle.decoder_rules.specs.declared.types.Optional.{Optional}
-use Rattle.decoder_rules.specs.declared.types.Optional.TheVariants.{Nothing, Number}
-use Rattle.decoder_rules.specs.declared.types.Part.{Part}
-use Rattle.decoder_rules.specs.declared.types.Part.TheVariants.{NoPart, Bytes}
 use Rattle.decoder_rules.specs.declared.types.TagDecoder.{TagDecoder}
 use Rattle.event_list.specs.Whole.{Answered}
 use Rattle.whole.specs.declared.types.Root.{Root}
-use Rattle.whole.specs.declared.types.Root.TheVariants as root
 use Rattle.whole.specs.declared.types.Seen.{Seen}
 use Rattle.whole.specs.declared.types.Verdict.{Verdict}
 use Rattle.whole.specs.declared.types.Verdict.TheVariants as verdict
+use Rattle.tag_parse.specs.declared.types.Range.{Range}
+use Rattle.decoder_rules.specs.declared.types.Refusal.{Refusal}
 
 -- ---- what is kept
 
@@ -65,30 +62,30 @@ other_seen c is = record {
 }
 
 -- after an answer, with the record d that it left
-abbrev pub seen_after : Seen → Answer → TagDecoder → Seen
-seen_after c (answer.Event (event.Start x p)) d = start_seen c x p d.open_count (top_is_sized d)
-seen_after c (answer.Event (event.End e)) d = other_seen c false
-seen_after c (answer.Event (event.Data x p v)) d = other_seen c (eqb d.open_count 0)
-seen_after c (answer.NeedMore missing) d = c
-seen_after c answer.Finished d = c
-seen_after c (answer.Refused r) d = c
+abbrev pub seen_after : Seen → Result Answer Refusal → TagDecoder → Seen
+seen_after c (Ok (answer.Event (event.Start x p))) d = start_seen c x p d.open_count (top_is_sized d)
+seen_after c (Ok (answer.Event (event.End e))) d = other_seen c false
+seen_after c (Ok (answer.Event (event.Data x p v))) d = other_seen c (eqb d.open_count 0)
+seen_after c (Ok (answer.NeedMore missing)) d = c
+seen_after c (Ok answer.Finished) d = c
+seen_after c (Err r) d = c
 
 -- ---- the verdict
 
 -- the size of a master, where it has one
-abbrev pub size_given : OpenTag → Optional
-size_given m = cond m.known (Number m.size) Nothing
+abbrev pub size_given : OpenTag → Option ℕ
+size_given m = cond m.known (Some m.size) None
 
 -- the outermost open master
-abbrev pub root_of : TagDecoder → Root
+abbrev pub root_of : TagDecoder → Option Root
 root_of d =
-    cond (eqb d.open_count 0) root.NoneOpen
-    (root.Open (get_or d.«open» 0 no_tag).id (get_or d.«open» 0 no_tag).tag_start (size_given (get_or d.«open» 0 no_tag)))
+    cond (eqb d.open_count 0) None
+    (Some (record { id = (get_or d.«open» 0 no_tag).id; start = (get_or d.«open» 0 no_tag).tag_start; size = size_given (get_or d.«open» 0 no_tag) }))
 
 -- how many bytes an input has that is cut at the position p: the bytes that refusal 23 names are the last
-abbrev pub bytes_there : Part → ℕ → ℕ
-bytes_there NoPart p = p
-bytes_there (Bytes range) p = range.end
+abbrev pub bytes_there : Option Range → ℕ → ℕ
+bytes_there None p = p
+bytes_there (Some range) p = range.end
 
 -- a refusal at a place: 23 says that the input was cut
 abbrev pub refused_as : DecodeError → ℕ → TagDecoder → Verdict
@@ -120,11 +117,11 @@ abbrev pub if_front : Seen → Verdict → Verdict
 if_front c v = cond c.front v verdict.FrontMissing
 
 -- the verdict at the last answer, with the record d that it left
-abbrev pub verdict_at : Seen → Answer → TagDecoder → Verdict
-verdict_at c (answer.Event e) d = verdict.NotEnded
-verdict_at c (answer.NeedMore missing) d = if_front c (verdict.TooLarge d.position)
-verdict_at c answer.Finished d = cond c.begun (if_front c (finished_as c d.position)) verdict.Empty
-verdict_at c (answer.Refused r) d = if_front c (refused_as r.error r.place d)
+abbrev pub verdict_at : Seen → Result Answer Refusal → TagDecoder → Verdict
+verdict_at c (Ok (answer.Event e)) d = verdict.NotEnded
+verdict_at c (Ok (answer.NeedMore missing)) d = if_front c (verdict.TooLarge d.position)
+verdict_at c (Ok answer.Finished) d = cond c.begun (if_front c (finished_as c d.position)) verdict.Empty
+verdict_at c (Err r) d = if_front c (refused_as r.error r.place d)
 
 -- ---- of all the answers to an input
 

@@ -1,12 +1,9 @@
 -- The line of a verdict.
-use Rattle.std.specs.Prelude.{ℕ, cond, List, [], ◌∷◌, ◌++◌, eqb}
+use Rattle.std.specs.Prelude.{ℕ, cond, List, [], ◌∷◌, ◌++◌, eqb, None, Option, Some}
 use Prim.Native.String.{String}
 use Rattle.numerals.specs.Numeral.{hex, decimal}
 use Rattle.texts.specs.Ascii.{ascii}
-use Rattle.decoder_rules.specs.declared.types.Optional.{Optional}
-use Rattle.decoder_rules.specs.declared.types.Optional.TheVariants.{Nothing, Number}
 use Rattle.whole.specs.declared.types.Root.{Root}
-use Rattle.whole.specs.declared.types.Root.TheVariants as root
 use Rattle.whole.specs.declared.types.Verdict.{Verdict}
 use Rattle.whole.specs.declared.types.Verdict.TheVariants as verdict
 
@@ -31,14 +28,14 @@ abbrev pub counts : ℕ → ℕ → List ℕ
 counts n m = counted n (ascii "feed") ++ ascii ", " ++ bytes m
 
 -- the size of a master, or that it has none
-unfoldable pub size_text : Optional → List ℕ
-size_text Nothing = ascii "no size, "
-size_text (Number n) = numbered "size " n ++ ascii ", "
+unfoldable pub size_text : Option ℕ → List ℕ
+size_text None = ascii "no size, "
+size_text (Some n) = numbered "size " n ++ ascii ", "
 
 -- the root that is open where the input ends
-unfoldable pub root_text : Root → List ℕ
-root_text root.NoneOpen = []
-root_text (root.Open x p size) = identified x " began at " p ++ ascii ", " ++ size_text size
+unfoldable pub root_text : Option Root → List ℕ
+root_text None = []
+root_text (Some root) = identified root.id " began at " root.start ++ ascii ", " ++ size_text root.size
 
 -- what is said of an input
 unfoldable pub verdict_text : Verdict → List ℕ

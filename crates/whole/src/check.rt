@@ -1,14 +1,15 @@
-// What is kept of the answers to an input, and the verdict at the last of them.
+//! What is kept of the answers to an input, and the verdict at the last of them.
 
-ghost use Rattle.std.specs.Prelude.{◌≡◌, cond, ◌&&◌};
+ghost use Rattle.std.specs.Prelude.{◌≡◌, Ok};
 ghost use Rattle.whole.specs.Checking.{at_start, counted_if, front_after, top_is_sized, start_seen, other_seen, seen_after, size_given, root_of, bytes_there, refused_as, finished_as, if_front, verdict_at};
 
 use crate::types::{Root, Seen, Verdict};
 use decoder_rules::errors::error_number;
-use decoder_rules::types::{Answer, DecodeError, Event, Optional, Part, Refusal, TagDecoder};
+use decoder_rules::types::{Answer, DecodeError, Event, Refusal, TagDecoder};
 use spec_util::types::{MOST_OPEN, OpenTag};
+use tag_parse::types::Range;
 
-// What is kept before the first answer.
+/// What is kept before the first answer.
 pub fn start() -> Seen
     ensures { result ≡ at_start }
 {
@@ -23,30 +24,11 @@ pub fn start() -> Seen
     }
 }
 
-// One of two numbers.
-fn either(is: bool, a: u64, b: u64) -> u64
-    ensures { result ≡ cond is a b }
-{
-    if is { a } else { b }
-}
-
-// Whether both are so.
-fn both(a: bool, b: bool) -> bool
-    ensures { result ≡ (a && b) }
-{
-    if a { b } else { false }
-}
-
 // One more, where the condition holds, up to the greatest number.
 fn counted_if(is: bool, n: u64) -> u64
     ensures { result ≡ counted_if is n }
 {
-    if is {
-        if n < u64::MAX {
-            return n + 1;
-        }
-    }
-    n
+    if is && n < u64::MAX { n + 1 } else { n }
 }
 
 // Whether the front is there after an event.
@@ -61,32 +43,21 @@ fn top_is_sized(d: TagDecoder) -> bool
     ensures { result ≡ top_is_sized d }
 {
     let count = d.open_count;
-    if count == 0 {
-        return false;
-    }
-    if MOST_OPEN < count {
-        return false;
-    }
-    let top = count - 1;
-    let m = d.open[top];
-    m.known
+    0 < count && count <= MOST_OPEN && d.open[count - 1].known
 }
 
 // After a Start at an offset, with so many open now.
 fn start_seen(c: Seen, id: u64, offset: u64, depth: usize, sized: bool) -> Seen
     ensures { result ≡ start_seen c id offset depth sized }
 {
-    let front = front_after(c, both(offset == 0, depth == 1));
-    let records = counted_if(depth == 1, c.records);
-    let feeds = counted_if(depth == 2, c.feeds);
     Seen {
         begun: true,
-        front,
-        sized: both(c.sized, sized),
-        id: either(c.sized, id, c.id),
-        start: either(c.sized, offset, c.start),
-        records,
-        feeds,
+        front: front_after(c, offset == 0 && depth == 1),
+        sized: c.sized && sized,
+        id: if c.sized { id } else { c.id },
+        start: if c.sized { offset } else { c.start },
+        records: counted_if(depth == 1, c.records),
+        feeds: counted_if(depth == 2, c.feeds),
     }
 }
 
@@ -94,22 +65,17 @@ fn start_seen(c: Seen, id: u64, offset: u64, depth: usize, sized: bool) -> Seen
 fn other_seen(c: Seen, is_record: bool) -> Seen
     ensures { result ≡ other_seen c is_record }
 {
-    let front = front_after(c, false);
-    let records = counted_if(is_record, c.records);
     Seen {
         begun: true,
-        front,
-        sized: c.sized,
-        id: c.id,
-        start: c.start,
-        records,
-        feeds: c.feeds,
+        front: front_after(c, false),
+        records: counted_if(is_record, c.records),
+        ..c
     }
 }
 
 // After an event, with the record that it left.
 fn event_seen(c: Seen, e: Event, d: TagDecoder) -> Seen
-    ensures { result ≡ seen_after c (Answer.Event e) d }
+    ensures { result ≡ seen_after c (Ok (Answer.Event e)) d }
 {
     match e {
         Event::Start { id, offset } => start_seen(c, id, offset, d.open_count, top_is_sized(d)),
@@ -118,50 +84,46 @@ fn event_seen(c: Seen, e: Event, d: TagDecoder) -> Seen
     }
 }
 
-// What is kept after an answer, with the record that it left.
-pub fn seen_after(c: Seen, answer: Answer, d: TagDecoder) -> Seen
+/// What is kept after an answer, with the record that it left.
+pub fn seen_after(c: Seen, answer: Result<Answer, Refusal>, d: TagDecoder) -> Seen
     ensures { result ≡ seen_after c answer d }
 {
     match answer {
-        Answer::Event(e) => event_seen(c, e, d),
-        Answer::NeedMore { .. } => c,
-        Answer::Finished => c,
-        Answer::Refused(_) => c,
+        Ok(Answer::Event(e)) => event_seen(c, e, d),
+        Ok(Answer::NeedMore { .. } | Answer::Finished) => c,
+        Err(_) => c,
     }
 }
 
 // The size of a master, where it has one.
-fn size_given(m: OpenTag) -> Optional
+fn size_given(m: OpenTag) -> Option<u64>
     ensures { result ≡ size_given m }
 {
-    if m.known {
-        return Optional::Number(m.size);
-    }
-    Optional::Nothing
+    if m.known { Some(m.size) } else { None }
 }
 
 // The outermost open master.
-fn root_of(d: TagDecoder) -> Root
+fn root_of(d: TagDecoder) -> Option<Root>
     ensures { result ≡ root_of d }
 {
     if d.open_count == 0 {
-        return Root::NoneOpen;
+        return None;
     }
     let m = d.open[0];
-    Root::Open {
+    Some(Root {
         id: m.id,
         start: m.tag_start,
         size: size_given(m),
-    }
+    })
 }
 
 // How many bytes an input has that is cut at this position.
-fn bytes_there(part: Part, position: u64) -> u64
+fn bytes_there(part: Option<Range>, position: u64) -> u64
     ensures { result ≡ bytes_there part position }
 {
     match part {
-        Part::NoPart => position,
-        Part::Bytes(range) => range.end,
+        Some(range) => range.end,
+        None => position,
     }
 }
 
@@ -170,11 +132,10 @@ fn refused_as(error: DecodeError, place: u64, d: TagDecoder) -> Verdict
     ensures { result ≡ refused_as error place d }
 {
     if let DecodeError::UnexpectedEOF(cut) = error {
-        let part = cut.part;
         return Verdict::Cut {
             at: d.position,
             root: root_of(d),
-            bytes: bytes_there(part, d.position),
+            bytes: bytes_there(cut.part, d.position),
         };
     }
     Verdict::Refused {
@@ -210,28 +171,22 @@ fn finished_as(c: Seen, position: u64) -> Verdict
 fn if_front(c: Seen, v: Verdict) -> Verdict
     ensures { result ≡ if_front c v }
 {
-    if c.front {
-        return v;
-    }
-    Verdict::FrontMissing
+    if c.front { v } else { Verdict::FrontMissing }
 }
 
-// The verdict at an answer, with the record that it left: it is the last.
-pub fn verdict_at(c: Seen, answer: Answer, d: TagDecoder) -> Verdict
+/// The verdict at an answer, with the record that it left: it is the last.
+pub fn verdict_at(c: Seen, answer: Result<Answer, Refusal>, d: TagDecoder) -> Verdict
     ensures { result ≡ verdict_at c answer d }
 {
     match answer {
-        Answer::Event(_) => Verdict::NotEnded,
-        Answer::NeedMore { .. } => if_front(c, Verdict::TooLarge(d.position)),
-        Answer::Finished => {
+        Ok(Answer::Event(_)) => Verdict::NotEnded,
+        Ok(Answer::NeedMore { .. }) => if_front(c, Verdict::TooLarge(d.position)),
+        Ok(Answer::Finished) => {
             if c.begun {
                 return if_front(c, finished_as(c, d.position));
             }
             Verdict::Empty
         }
-        Answer::Refused(r) => {
-            let error = r.error;
-            if_front(c, refused_as(error, r.place, d))
-        }
+        Err(r) => if_front(c, refused_as(r.error, r.place, d)),
     }
 }

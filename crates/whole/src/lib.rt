@@ -1,5 +1,5 @@
-// Is a night whole? What is kept of the answers to an input, the verdict at the last of them, and its line; the verdict
-// on a record in memory, and a verdict as numbers.
+//! Is a night whole? What is kept of the answers to an input, the verdict at the last of them, and its line; the verdict
+//! on a record in memory, and a verdict as numbers.
 #![tactic(auto)]
 
 pub mod check;

@@ -1,4 +1,4 @@
-// The line of a verdict.
+//! The line of a verdict.
 
 ghost use Rattle.std.specs.Prelude.{◌≡◌, ◌++◌, ◌+◌, ◌≤◌, length};
 ghost use Rattle.tools.specs.Answers.{Gives};
@@ -6,15 +6,13 @@ ghost use Rattle.numerals.specs.Puts.{Puts};
 ghost use Rattle.texts.specs.Out.{text_out};
 ghost use Rattle.numerals.specs.Numeral.{hex, decimal};
 ghost use Rattle.whole.specs.Line.{counted, counts, size_text, root_text, verdict_text, verdict_line, most_line};
-ghost use Rattle.whole.specs.declared.types.Root.TheVariants.{Open};
 ghost use Rattle.whole.specs.declared.types.Verdict.TheVariants.{Refused, Cut, CannotTell, More};
 
 use crate::types::{Root, Verdict};
-use decoder_rules::types::Optional;
 use numerals::{put, put_decimal, put_hex};
 use texts::put_text;
 
-// No line is longer.
+/// No line is longer.
 pub const MOST_LINE: usize = 156;
 
 // A number, and the word for what is counted.
@@ -60,13 +58,13 @@ fn put_counts(feed_count: u64, byte_count: u64, out: &mut [u8], at: usize) -> us
 }
 
 // The size of a master, or that it has none.
-fn put_size(size: Optional, out: &mut [u8], at: usize) -> usize
+fn put_size(size: Option<u64>, out: &mut [u8], at: usize) -> usize
     requires { at + 35 ≤ length out.old }
     ensures { Puts 35 result out.new out.old at (size_text size) }
 {
     match size {
-        Optional::Nothing => put_text(b"no size, ", out, at),
-        Optional::Number(n) => {
+        None => put_text(b"no size, ", out, at),
+        Some(n) => {
             let after_size = put_number(b"size ", n, out, at);
             put_text(b", ", out, after_size)
         }
@@ -74,13 +72,13 @@ fn put_size(size: Optional, out: &mut [u8], at: usize) -> usize
 }
 
 // The root that is open where the input ends.
-fn put_root(root: Root, out: &mut [u8], at: usize) -> usize
+fn put_root(root: Option<Root>, out: &mut [u8], at: usize) -> usize
     requires { at + 86 ≤ length out.old }
     ensures { Puts 86 result out.new out.old at (root_text root) }
 {
     match root {
-        Root::NoneOpen => at,
-        Root::Open { id, start, size } => {
+        None => at,
+        Some(Root { id, start, size }) => {
             let after_start = put_id(id, b" began at ", start, out, at);
             let after_comma = put_text(b", ", out, after_start);
             put_size(size, out, after_comma)
@@ -98,7 +96,7 @@ fn put_refused(number: u64, place: u64, out: &mut [u8]) -> usize
 }
 
 // A cut.
-fn put_cut(position: u64, root: Root, byte_count: u64, out: &mut [u8]) -> usize
+fn put_cut(position: u64, root: Option<Root>, byte_count: u64, out: &mut [u8]) -> usize
     requires { 155 ≤ length out.old }
     ensures { Puts 155 result out.new out.old 0 (verdict_text (Cut position root byte_count)) }
 {
@@ -155,7 +153,7 @@ fn put_words(v: Verdict, out: &mut [u8]) -> usize
     }
 }
 
-// The line of a verdict at the front of the lent bytes: its length, or 0 where fewer than MOST_LINE bytes are lent.
+/// The line of a verdict at the front of the lent bytes: its length, or 0 where fewer than MOST_LINE bytes are lent.
 pub fn put_verdict(v: Verdict, out: &mut [u8]) -> usize
     ensures { Gives result out.new (text_out most_line (verdict_line v) out.old) × (result ≤ length out.old) }
 {

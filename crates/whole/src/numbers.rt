@@ -1,30 +1,9 @@
-// A verdict as numbers, for C.
+//! A verdict as numbers, for C.
 
 ghost use Rattle.std.specs.Prelude.{◌≡◌};
-ghost use Rattle.whole.specs.Numbers.{size_named, size_number, numbers_of, verdict_numbers};
+ghost use Rattle.whole.specs.Numbers.{numbers_of, verdict_numbers};
 
 use crate::types::{Root, Verdict, VerdictNumbers};
-use decoder_rules::types::Optional;
-
-// 1 where there is a size, else 0.
-fn size_named(size: Optional) -> u64
-    ensures { result ≡ size_named size }
-{
-    match size {
-        Optional::Nothing => 0,
-        Optional::Number(_) => 1,
-    }
-}
-
-// The size, or 0 where there is none.
-fn size_number(size: Optional) -> u64
-    ensures { result ≡ size_number size }
-{
-    match size {
-        Optional::Nothing => 0,
-        Optional::Number(n) => n,
-    }
-}
 
 // A verdict's number, its counts, the number of a refusal, a place, and a root where one is named.
 fn numbers_with(
@@ -34,7 +13,7 @@ fn numbers_with(
     bytes: u64,
     number: u64,
     place: u64,
-    root: Root,
+    root: Option<Root>,
 ) -> VerdictNumbers
     ensures { result ≡ numbers_of verdict records feeds bytes number place root }
 {
@@ -51,37 +30,42 @@ fn numbers_with(
         root_size_named: 0,
         root_size: 0,
     };
-    if let Root::Open { id, start, size } = root {
+    if let Some(Root { id, start, size }) = root {
         numbers.root_named = 1;
         numbers.root_id = id;
         numbers.root_start = start;
-        numbers.root_size_named = size_named(size);
-        numbers.root_size = size_number(size);
+        if let Some(n) = size {
+            numbers.root_size_named = 1;
+            numbers.root_size = n;
+        }
     }
     numbers
 }
 
-// The numbers of a verdict.
+/// The numbers of a verdict.
 pub fn numbers_of(v: Verdict) -> VerdictNumbers
     ensures { result ≡ verdict_numbers v }
 {
-    let none = Root::NoneOpen;
     match v {
-        Verdict::Whole { feeds, bytes } => numbers_with(1, 1, feeds, bytes, 0, 0, none),
-        Verdict::Empty => numbers_with(2, 0, 0, 0, 0, 0, none),
-        Verdict::FrontMissing => numbers_with(3, 0, 0, 0, 0, 0, none),
-        Verdict::Refused { number, place } => numbers_with(4, 0, 0, 0, number, place, none),
-        Verdict::TooLarge(place) => numbers_with(5, 0, 0, 0, 0, place, none),
+        Verdict::Whole { feeds, bytes } => numbers_with(1, 1, feeds, bytes, 0, 0, None),
+        Verdict::Empty => numbers_with(2, 0, 0, 0, 0, 0, None),
+        Verdict::FrontMissing => numbers_with(3, 0, 0, 0, 0, 0, None),
+        Verdict::Refused { number, place } => numbers_with(4, 0, 0, 0, number, place, None),
+        Verdict::TooLarge(place) => numbers_with(5, 0, 0, 0, 0, place, None),
         Verdict::Cut { at, root, bytes } => numbers_with(6, 0, 0, bytes, 0, at, root),
         Verdict::CannotTell { id, start } => {
-            let size = Optional::Nothing;
-            numbers_with(7, 0, 0, 0, 0, 0, Root::Open { id, start, size })
+            let root = Root {
+                id,
+                start,
+                size: None,
+            };
+            numbers_with(7, 0, 0, 0, 0, 0, Some(root))
         }
         Verdict::More {
             records,
             feeds,
             bytes,
-        } => numbers_with(8, records, feeds, bytes, 0, 0, none),
-        Verdict::NotEnded => numbers_with(9, 0, 0, 0, 0, 0, none),
+        } => numbers_with(8, records, feeds, bytes, 0, 0, None),
+        Verdict::NotEnded => numbers_with(9, 0, 0, 0, 0, 0, None),
     }
 }

@@ -15,16 +15,16 @@ use Rattle.guarantees.proofs.CutRecords.{cut_records}
 use Rattle.tag_writer.specs.Document.{value, master, Run, none, then, header_bytes, size_of_element, size_of_run, element_bytes, run_bytes}
 use Rattle.tag_writer.specs.Items.{marks_of, run_of}
 use Rattle.tag_writer.specs.Write.{good_element, good_run, write}
-use Rattle.tag_writer.specs.declared.types.Wrote.TheVariants.{Written}
 use Rattle.tag_writer.proofs.Asked.{asked_master, asked_run}
 use Rattle.tag_writer.proofs.HeaderBack.{head_of, header_back}
 use Rattle.tag_writer.proofs.Lengths.{element_length, run_length}
 use Rattle.tag_writer.proofs.RoundTrip.{is_written}
 use Rattle.tag_writer.proofs.ValueBack.{not_numeric}
 use Rattle.written.specs.Cut.{written, is_one_root, NoCutLooksWhole}
+use Rattle.std.specs.Prelude.{Ok}
 
 -- what is written are the bytes of the document that the items say
-pub written_bytes : (es ps items vals out : List ℕ) (n : ℕ) → (write es ps items vals out).0 ≡ Written n → written es ps items vals out n ≡ run_bytes (run_of (marks_of vals items))
+pub written_bytes : (es ps items vals out : List ℕ) (n : ℕ) → (write es ps items vals out).0 ≡ Ok n → written es ps items vals out n ≡ run_bytes (run_of (marks_of vals items))
 written_bytes es ps items vals out n e =
     let w = is_written es ps items vals out n e in
     let doc : Run = run_of (marks_of vals items) in
@@ -59,7 +59,7 @@ root_begins t (then (master x r) none) one good =
     subst (λ (f : ℕ). BeginsWithMaster t (element_bytes (master x r) ++ []) f) e (master_begins t [] x r [] (asked_run t [] (master x r) none good).0)
 root_begins t (then e (then f r)) one good = absurd (false≢true one)
 
-module _ (es ps items vals out : List ℕ) (n : ℕ) (e : (write es ps items vals out).0 ≡ Written n) (one : is_one_root (run_of (marks_of vals items)) ≡ true) where
+module _ (es ps items vals out : List ℕ) (n : ℕ) (e : (write es ps items vals out).0 ≡ Ok n) (one : is_one_root (run_of (marks_of vals items)) ≡ true) where
   begins : BeginsWithMaster (table_of es ps) (written es ps items vals out n) (length (written es ps items vals out n))
   begins =
       let w = is_written es ps items vals out n e in

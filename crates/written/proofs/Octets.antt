@@ -16,11 +16,11 @@ use Rattle.tag_parse.proofs.Cases.{octets_drop}
 use Rattle.tag_writer.specs.Document.{Value, Element, value, master, Run, none, then, payload, integer_bytes, id_width, id_bytes, header_bytes, size_of_run, element_bytes, run_bytes}
 use Rattle.tag_writer.specs.Items.{Mark, start, end, datum, raw_at, value_of, value_at, mark_of, marks_of, run_of, element_marks, run_marks}
 use Rattle.tag_writer.specs.Write.{write}
-use Rattle.tag_writer.specs.declared.types.Wrote.TheVariants.{Written}
 use Rattle.tag_writer.proofs.Marks.{matched_marks}
 use Rattle.tag_writer.proofs.RoundTrip.{is_written}
 use Rattle.written.specs.Cut.{written}
 use Rattle.written.proofs.Cut.{written_bytes}
+use Rattle.std.specs.Prelude.{Ok}
 
 -- ---- of lists
 
@@ -109,7 +109,7 @@ mutual
       octets_append (element_bytes e) (run_bytes r) (element_octets e p.0) (run_octets r p.1)
 
 -- what is written are octets
-pub written_octets : (es ps items vals out : List ℕ) (n : ℕ) → (write es ps items vals out).0 ≡ Written n → Octets vals → Octets (written es ps items vals out n)
+pub written_octets : (es ps items vals out : List ℕ) (n : ℕ) → (write es ps items vals out).0 ≡ Ok n → Octets vals → Octets (written es ps items vals out n)
 unfolding marks_of
 written_octets es ps items vals out n e byte =
     let w = is_written es ps items vals out n e in

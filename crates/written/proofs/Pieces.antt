@@ -29,7 +29,6 @@ use Rattle.tag_writer.specs.Document.{Run}
 use Rattle.tag_writer.specs.Items.{marks_of, run_of}
 use Rattle.tag_writer.specs.ReadBack.{said, said_counts, is_taken}
 use Rattle.tag_writer.specs.Write.{write}
-use Rattle.tag_writer.specs.declared.types.Wrote.TheVariants.{Written}
 use Rattle.tag_writer.proofs.InRange.{all_taken}
 use Rattle.tag_writer.proofs.Lengths.{run_length}
 use Rattle.tag_writer.proofs.Marks.{matched_marks, size_run}
@@ -38,6 +37,8 @@ use Rattle.written.specs.Cut.{written}
 use Rattle.written.specs.Pieces.{lent_in_pieces, IsReadInPieces}
 use Rattle.written.proofs.Cut.{written_bytes}
 use Rattle.written.proofs.Octets.{written_octets}
+use Rattle.std.specs.Prelude.{Err, Ok, Result}
+use Rattle.decoder_rules.specs.declared.types.Refusal.{Refusal}
 
 -- ---- calls that tell events and then need more are a run
 
@@ -48,7 +49,7 @@ tells c = map (λ (x : Call). x.told) c.calls
 -- a run gives these events, then needs m more, and leaves what the calls leave
 record Gives (events : List Event) (m : ℕ) (c : Calls) (o : Outcome) : Type 0 where
   handed : events_of o ≡ events
-  asks : o.last ≡ answer.NeedMore m
+  asks : o.last ≡ Ok (answer.NeedMore m)
   left : o.state ≡ c.left
   rest : o.rest ≡ c.rest
 
@@ -59,7 +60,7 @@ module _ (es ps : List ℕ) (m : ℕ) where
 
   module _ (d : TagDecoder) (s : List ℕ) where
     -- n calls after the first, by its answer
-    abbrev from_first : ℕ → Answer → Calls
+    abbrev from_first : ℕ → Result Answer Refusal → Calls
     from_first n a = goes_on_with (in_a_row (decode es ps) n) a (record { told = told_by a; taken = (decode es ps d s).taken }) (decode es ps d s).state (drop (decode es ps d s).taken s)
 
     -- the call that needs more is all of the run
@@ -67,28 +68,28 @@ module _ (es ps : List ℕ) (m : ℕ) where
     unfolding in_a_row
     asks_alike = go (decode es ps d s).answer refl
       where
-        go : (a : Answer) → (decode es ps d s).answer ≡ a → tells (from_first 0 a) ≡ need_more m ∷ [] → Gives [] m (from_first 0 a) (run es ps d s)
-        go (answer.Event e) q t = let z : ◌≡◌ {A = ℕ} 0 1 = cc in absurd_eq z
-        go (answer.NeedMore missing) q t =
+        go : (a : Result Answer Refusal) → (decode es ps d s).answer ≡ a → tells (from_first 0 a) ≡ need_more m ∷ [] → Gives [] m (from_first 0 a) (run es ps d s)
+        go (Ok (answer.Event e)) q t = let z : ◌≡◌ {A = ℕ} 0 1 = cc in absurd_eq z
+        go (Ok (answer.NeedMore missing)) q t =
             let stops = run_stops es ps d s (ap is_no_event q) in
             let so-many : missing ≡ m = cc in
             record {
               handed = ap (λ (o : Outcome). events_of o) stops;
-              asks = ap (λ (o : Outcome). o.last) stops ∙ q ∙ ap answer.NeedMore so-many;
+              asks = ap (λ (o : Outcome). o.last) stops ∙ q ∙ ap (λ m. Ok (answer.NeedMore m)) so-many;
               left = ap (λ (o : Outcome). o.state) stops;
               rest = ap (λ (o : Outcome). o.rest) stops;
             }
-        go answer.Finished q t = let z : ◌≡◌ {A = ℕ} 0 1 = cc in absurd_eq z
-        go (answer.Refused x) q t = let z : ◌≡◌ {A = ℕ} 0 1 = cc in absurd_eq z
+        go (Ok answer.Finished) q t = let z : ◌≡◌ {A = ℕ} 0 1 = cc in absurd_eq z
+        go (Err x) q t = let z : ◌≡◌ {A = ℕ} 0 1 = cc in absurd_eq z
 
     -- an event comes first, where it is so of what its call leaves
     event_alike : (x : Event) (events : List Event) → Octets s → Alike events (decode es ps d s).state (drop (decode es ps d s).taken s) → Alike (x ∷ events) d s
     unfolding in_a_row
     event_alike x events byte on = go (decode es ps d s).answer refl
       where
-        go : (a : Answer) → (decode es ps d s).answer ≡ a → tells (from_first (suc (length events)) a) ≡ event x ∷ (map event events ++ (need_more m ∷ []))
+        go : (a : Result Answer Refusal) → (decode es ps d s).answer ≡ a → tells (from_first (suc (length events)) a) ≡ event x ∷ (map event events ++ (need_more m ∷ []))
             → Gives (x ∷ events) m (from_first (suc (length events)) a) (run es ps d s)
-        go (answer.Event e) q t =
+        go (Ok (answer.Event e)) q t =
             let goes = run_event es ps d s byte q in
             let same : e ≡ x = cc in
             let later = on (cc) in
@@ -98,9 +99,9 @@ module _ (es ps : List ℕ) (m : ℕ) where
               left = ap (λ (o : Outcome). o.state) goes ∙ later.left;
               rest = ap (λ (o : Outcome). o.rest) goes ∙ later.rest;
             }
-        go (answer.NeedMore missing) q t = let z : ◌≡◌ {A = ℕ} 0 1 = cc in absurd_eq z
-        go answer.Finished q t = let z : ◌≡◌ {A = ℕ} 0 1 = cc in absurd_eq z
-        go (answer.Refused y) q t = let z : ◌≡◌ {A = ℕ} 0 1 = cc in absurd_eq z
+        go (Ok (answer.NeedMore missing)) q t = let z : ◌≡◌ {A = ℕ} 0 1 = cc in absurd_eq z
+        go (Ok answer.Finished) q t = let z : ◌≡◌ {A = ℕ} 0 1 = cc in absurd_eq z
+        go (Err y) q t = let z : ◌≡◌ {A = ℕ} 0 1 = cc in absurd_eq z
 
   calls_alike : (events : List Event) (d : TagDecoder) (s : List ℕ) → Octets s → Alike events d s
   calls_alike [] d s byte = asks_alike d s
@@ -110,7 +111,7 @@ module _ (es ps : List ℕ) (m : ℕ) where
 
 -- ---- what the writer writes
 
-module _ (es ps items vals out : List ℕ) (n : ℕ) (e : (write es ps items vals out).0 ≡ Written n) where
+module _ (es ps items vals out : List ℕ) (n : ℕ) (e : (write es ps items vals out).0 ≡ Ok n) where
   -- it is no longer than a position can be
   pub written_near : length (written es ps items vals out n) ≤ farthest
   written_near =

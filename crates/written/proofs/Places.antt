@@ -9,7 +9,6 @@ use lib.ListN.{length, length-append}
 use Rattle.basics.specs.Lists.{every}
 use Rattle.table.specs.Check.{check_table, only_ids}
 use Rattle.table.specs.Table.{Entry, table_of, data_type_of, path_of, is_typed}
-use Rattle.table.specs.declared.types.Checked.TheVariants.{Passed}
 use Rattle.table.specs.declared.types.PathPart.TheVariants.{Id}
 use Rattle.table.specs.declared.types.TagDataType.{TagDataType}
 use Rattle.table.specs.declared.types.TagDataType.TheVariants.{Master}
@@ -35,7 +34,6 @@ use Rattle.known_places.proofs.KnownPlaces.{parts_of_ids, known_places}
 use Rattle.tag_writer.specs.Document.{value, master, Run, none, then, header_bytes, size_of_run, element_bytes, run_bytes}
 use Rattle.tag_writer.specs.Items.{marks_of, run_of}
 use Rattle.tag_writer.specs.Write.{goes_in, good_run, write}
-use Rattle.tag_writer.specs.declared.types.Wrote.TheVariants.{Written}
 use Rattle.tag_writer.proofs.Asked.{asked_master, asked_run}
 use Rattle.tag_writer.proofs.HeaderBack.{head_of, header_back}
 use Rattle.tag_writer.proofs.Placing.{placed}
@@ -47,10 +45,11 @@ use Rattle.written.specs.Whole.{begins_with_root}
 use Rattle.written.proofs.Cut.{written_bytes, written_cut}
 use Rattle.written.proofs.Sizes.{written_starts}
 use Rattle.written.proofs.Whole.{one_begins}
+use Rattle.std.specs.Prelude.{Ok}
 
 -- ---- a document that begins with a master begins at a root
 
-module _ (es ps : List ℕ) (checked : check_table es ps ≡ Passed) where
+module _ (es ps : List ℕ) (checked : check_table es ps ≡ (Ok tt)) where
   abbrev t : List Entry
   t = table_of es ps
 
@@ -80,7 +79,7 @@ module _ (es ps : List ℕ) (checked : check_table es ps ≡ Passed) where
 
 -- ---- of what the writer writes
 
-module _ (es ps items vals out : List ℕ) (n : ℕ) (e : (write es ps items vals out).0 ≡ Written n) (root : begins_with_root (run_of (marks_of vals items)) ≡ true) where
+module _ (es ps items vals out : List ℕ) (n : ℕ) (e : (write es ps items vals out).0 ≡ Ok n) (root : begins_with_root (run_of (marks_of vals items)) ≡ true) where
   begins : BeginsAtRoot (table_of es ps) (written es ps items vals out n)
   begins =
       let w = is_written es ps items vals out n e in
@@ -96,7 +95,7 @@ module _ (es ps items vals out : List ℕ) (n : ℕ) (e : (write es ps items val
       (from_root es ps (is_written es ps items vals out n e).passed).known_here s rest (begins_so s rest is) cs c l i on ((written_starts es ps items vals out n e).known s rest is cs l.1 i.1)
 
   counted : (s rest : List ℕ) → s ++ rest ≡ written es ps items vals out n → (cs : List Call) (c : Call) → Lent (c ∷ cs) → InOrder es ps s (c ∷ cs) → child_test_never_off cs ≡ true
-      → (end : WaitingEnd) → Answers es ps cs c (answer.Event (event.End end)) → EndCounts es ps s cs end
+      → (end : WaitingEnd) → Answers es ps cs c (Ok (answer.Event (event.End end))) → EndCounts es ps s cs end
   unfolding Lent InOrder
   counted s rest is cs c l i on =
       let passed = (is_written es ps items vals out n e).passed in
@@ -113,12 +112,12 @@ module _ (es ps items vals out : List ℕ) (n : ℕ) (e : (write es ps items val
 
 -- ---- of a night of one root
 
-module _ (es ps items vals out : List ℕ) (n : ℕ) (e : (write es ps items vals out).0 ≡ Written n) (one : is_one_root (run_of (marks_of vals items)) ≡ true) where
+module _ (es ps items vals out : List ℕ) (n : ℕ) (e : (write es ps items vals out).0 ≡ Ok n) (one : is_one_root (run_of (marks_of vals items)) ≡ true) where
   abbrev w : List ℕ
   w = written es ps items vals out n
 
   -- a front that comes to the finish is all of it
-  all_of_it : (s rest : List ℕ) → s ++ rest ≡ w → 0 < length s → (cs : List Call) (c : Call) → Lent (c ∷ cs) → InOrder es ps s (c ∷ cs) → Answers es ps cs c answer.Finished → s ≡ w
+  all_of_it : (s rest : List ℕ) → s ++ rest ≡ w → 0 < length s → (cs : List Call) (c : Call) → Lent (c ∷ cs) → InOrder es ps s (c ∷ cs) → Answers es ps cs c (Ok answer.Finished) → s ≡ w
   all_of_it s [] is some cs c l i a = sym (append-nil s) ∙ is
   all_of_it s (y ∷ rest) is some cs c l i a =
       let total : length s + length (y ∷ rest) ≡ length w = sym (length-append s (y ∷ rest)) ∙ ap length is in

@@ -12,14 +12,11 @@ use Rattle.basics.proofs.Bools.{absurd_eq, and_both}
 use Rattle.tools.specs.Bytes.{Octets}
 use Rattle.table.specs.Check.{check_table}
 use Rattle.table.specs.Table.{Entry, table_of, data_type_of, is_master}
-use Rattle.table.specs.declared.types.Checked.TheVariants.{Passed}
 use Rattle.table.specs.declared.types.TagDataType.TheVariants as type
 use Rattle.table.proofs.Rules.{master_is}
 use Rattle.tag_parse.specs.Header.{numeric, read_header, after_id, read_tag_id}
 use Rattle.tag_parse.specs.declared.types.EBMLSize.{EBMLSize}
 use Rattle.tag_parse.specs.declared.types.EBMLSize.TheVariants.{Known}
-use Rattle.tag_parse.specs.declared.types.ReadHeader.{ReadHeader}
-use Rattle.tag_parse.specs.declared.types.ReadHeader.TheVariants as header
 use Rattle.tag_parse.specs.declared.types.TagHeader.{TagHeader}
 use Rattle.tag_parse.specs.declared.types.TagValue.{TagValue}
 use Rattle.tag_parse.specs.declared.types.TagValue.TheVariants as told
@@ -38,7 +35,6 @@ use Rattle.guarantees.proofs.InOrder.{is_element, takes_none, lends_front, lends
 use Rattle.tag_writer.specs.Document.{Element, value, master, Run, none, then, payload, header_bytes, size_of_run, element_bytes, run_bytes}
 use Rattle.tag_writer.specs.Items.{marks_of, run_of}
 use Rattle.tag_writer.specs.Write.{good_element, good_run, write}
-use Rattle.tag_writer.specs.declared.types.Wrote.TheVariants.{Written}
 use Rattle.tag_writer.proofs.Asked.{asked_value, asked_master, asked_run}
 use Rattle.tag_writer.proofs.HeaderBack.{head_of, header_back}
 use Rattle.tag_writer.proofs.RoundTrip.{is_written}
@@ -47,6 +43,11 @@ use Rattle.written.specs.Cut.{written}
 use Rattle.written.specs.Sizes as sizes
 use Rattle.written.specs.Sizes.{KnownSizes, StartsKnown}
 use Rattle.written.proofs.Cut.{written_bytes}
+use Rattle.std.specs.Prelude.{Err, Ok, Result}
+use Rattle.tag_parse.specs.declared.types.ParseError.{ParseError}
+use Rattle.decoder_rules.specs.declared.types.Refusal.{Refusal}
+use Rattle.tools.specs.declared.status.Status.{Status}
+use Rattle.tools.specs.declared.status.Status.TheVariants as status
 
 -- ---- of what is written
 
@@ -60,7 +61,7 @@ module _ (t : List Entry) where
         let H = header_bytes x n in
         let g = asked_value t opened x v good in
         let typed = value_typed (data_type_of t x) v g.kind in
-        let read : read_header t ((H ++ payload v) ++ rest) ≡ header.Header (head_of t x n) =
+        let read : read_header t ((H ++ payload v) ++ rest) ≡ Ok (status.Complete (head_of t x n)) =
         ap (read_header t) (append_assoc H (payload v) rest) ∙ header_back t x n (payload v ++ rest) g.back (omega (arith, g.size)) (value_short (data_type_of t x) v g.kind) in
         let left : drop (length H + n) ((H ++ payload v) ++ rest) ≡ rest = drop_at (H ++ payload v) rest (length H + n) (length-append H (payload v)) in
         sizes.value (head_of t x n) n read (λ m. true≢false (sym (ap is_master m) ∙ typed.0)) refl (subst (KnownSizes t) (sym left) k)
@@ -70,7 +71,7 @@ module _ (t : List Entry) where
         let g = asked_master t opened x r good in
         let kind = master_is (data_type_of t x) g.kind in
         let assoc = append_assoc H (run_bytes r) rest in
-        let read : read_header t ((H ++ run_bytes r) ++ rest) ≡ header.Header (head_of t x n) =
+        let read : read_header t ((H ++ run_bytes r) ++ rest) ≡ Ok (status.Complete (head_of t x n)) =
         ap (read_header t) assoc ∙ header_back t x n (run_bytes r ++ rest) g.back (omega (arith, g.size)) (not_numeric (data_type_of t x) n (ap numeric kind)) in
         let left : drop (length H) ((H ++ run_bytes r) ++ rest) ≡ run_bytes r ++ rest = ap (drop (length H)) assoc ∙ drop_at H (run_bytes r ++ rest) (length H) refl in
         sizes.master (head_of t x n) n read kind refl (subst (KnownSizes t) (sym left) (run_known (opened ++ (x ∷ [])) r rest g.children k))
@@ -94,7 +95,7 @@ no_master_lem (told.Float x) e = let z : ◌≡◌ {A = ℕ} 0 1 = cc in absurd_
 no_master_lem (told.Raw x) e = let z : ◌≡◌ {A = ℕ} 0 1 = cc in absurd_eq z
 
 -- no byte is no header
-no_header : (t : List Entry) (h : TagHeader) → read_header t [] ≡ header.Header h → ⊥
+no_header : (t : List Entry) (h : TagHeader) → read_header t [] ≡ Ok (status.Complete h) → ⊥
 unfolding read_header after_id read_tag_id
 no_header t h e = let z : ◌≡◌ {A = ℕ} 0 1 = cc in absurd_eq z
 
@@ -104,7 +105,7 @@ record Inside (t : List Entry) (s : List ℕ) (h : TagHeader) : Type 0 where
   is_known : h.size ≡ Known size
   left : KnownSizes t (drop h.len s)
 
-master_inside : (t : List Entry) (s : List ℕ) (h : TagHeader) → read_header t s ≡ header.Header h → h.kind ≡ type.Master → KnownSizes t s → Inside t s h
+master_inside : (t : List Entry) (s : List ℕ) (h : TagHeader) → read_header t s ≡ Ok (status.Complete h) → h.kind ≡ type.Master → KnownSizes t s → Inside t s h
 master_inside t s h r m sizes.no_more = absurd (no_header t h r)
 master_inside t s h r m (sizes.master g n q k z left) =
     let same : g ≡ h = cc in
@@ -114,7 +115,7 @@ master_inside t s h r m (sizes.value g n q k z left) =
     absurd (k (ap (λ (x : TagHeader). x.kind) same ∙ m))
 
 -- what stands after an element that is no Master
-value_after : (t : List Entry) (s : List ℕ) (h : TagHeader) (n : ℕ) → read_header t s ≡ header.Header h → h.size ≡ Known n → (h.kind ≡ type.Master → ⊥) → KnownSizes t s
+value_after : (t : List Entry) (s : List ℕ) (h : TagHeader) (n : ℕ) → read_header t s ≡ Ok (status.Complete h) → h.size ≡ Known n → (h.kind ≡ type.Master → ⊥) → KnownSizes t s
     → KnownSizes t (drop (h.len + n) s)
 value_after t s h n r z m sizes.no_more = absurd (no_header t h r)
 value_after t s h n r z m (sizes.master g k q i y left) =
@@ -129,13 +130,13 @@ value_after t s h n r z m (sizes.value g k q i y left) =
     subst (λ (j : ℕ). KnownSizes t (drop j s)) all left
 
 -- where it ends is known
-end_known : (t : List Entry) (b : List ℕ) (o : ℕ) (h : TagHeader) (n : ℕ) → read_header t b ≡ header.Header h → h.size ≡ Known n → is_known_end (header_end o (read_header t b)) ≡ true
-end_known t b o h n r z = ap (λ (y : ReadHeader). is_known_end (header_end o y)) r ∙ ap (λ (y : EBMLSize). is_known_end (end_after (o + h.len) y)) z
+end_known : (t : List Entry) (b : List ℕ) (o : ℕ) (h : TagHeader) (n : ℕ) → read_header t b ≡ Ok (status.Complete h) → h.size ≡ Known n → is_known_end (header_end o (read_header t b)) ≡ true
+end_known t b o h n r z = ap (λ (y : Result (Status TagHeader) ParseError). is_known_end (header_end o y)) r ∙ ap (λ (y : EBMLSize). is_known_end (end_after (o + h.len) y)) z
 
 -- where a call is made at a place of known sizes, on the front b of what is there, and tells x: the place after it is
 -- one too, and of the Starts all are of known size
 module _ (t : List Entry) (w : List ℕ) (p : ℕ) (b u : List ℕ) (byte : Octets b) (lies : b ++ u ≡ drop p w) (at : KnownSizes t (drop p w)) where
-  longer : (h : TagHeader) → read_header t b ≡ header.Header h → read_header t (drop p w) ≡ header.Header h
+  longer : (h : TagHeader) → read_header t b ≡ Ok (status.Complete h) → read_header t (drop p w) ≡ Ok (status.Complete h)
   longer h r = ap (read_header t) (sym lies) ∙ header_local t b u (byte 0) (rw r) ∙ r
 
   -- what is to be shown of what a call tells, where these Starts were handed out before
@@ -147,12 +148,12 @@ module _ (t : List Entry) (w : List ℕ) (p : ℕ) (b u : List ℕ) (byte : Octe
 
   tells : (l : List Started) (k : every (λ (m : Started). is_known_end m.end) l ≡ true) (strict off : Bool) (starts : List Started) (left : List ℕ) (x : Response)
       → ResponseFacts t off b starts left p x → MeasuredResponse strict t b p x
-      → ((a : Answer) (n : ℕ) → x ≡ answered a n → is_element a ≡ false → n ≡ 0) → ((a : Search) (n : ℕ) → x ≡ searched a n → ⊥)
+      → ((a : Result Answer Refusal) (n : ℕ) → x ≡ answered a n → is_element a ≡ false → n ≡ 0) → ((a : Result Search Refusal) (n : ℕ) → x ≡ searched a n → ⊥)
       → Keeps l x
   unfolding every declared_end
-  tells l k strict off starts left (answered (answer.Event (event.Start x o)) n) g m zero-taken unsearched =
+  tells l k strict off starts left (answered (Ok (answer.Event (event.Start x o))) n) g m zero-taken unsearched =
       let h = m.its in
-      let same : g.1.heads.its ≡ h = (let q : header.Header g.1.heads.its ≡ header.Header h = sym g.1.heads.is_read ∙ m.read in cc) in
+      let same : g.1.heads.its ≡ h = (let q : Ok (status.Complete g.1.heads.its) ≡ Ok (status.Complete h) = sym g.1.heads.is_read ∙ m.read in cc) in
       let id : h.id ≡ x = sym (ap (λ (y : TagHeader). y.id) same) ∙ g.1.heads.same_id in
       let kind : h.kind ≡ type.Master = (header_spec t b h m.read).kind ∙ ap (data_type_of t) id ∙ g.0 in
       let i = master_inside t (drop p w) h (longer h m.read) kind at in
@@ -160,25 +161,25 @@ module _ (t : List Entry) (w : List ℕ) (p : ℕ) (b u : List ℕ) (byte : Octe
       let sum : p + h.len ≡ p + n = omega (arith, m.no_more) in
       let place : drop h.len (drop p w) ≡ drop (p + n) w = drop-drop h.len p w ∙ ap (λ (j : ℕ). drop j w) sum in
       (subst (KnownSizes t) place i.left, and_both known k)
-  tells l k strict off starts left (answered (answer.Event (event.End end)) n) g m zero-taken unsearched = (stays n (zero-taken _ n refl refl), k)
-  tells l k strict off starts left (answered (answer.Event (event.Data x o v)) n) g m zero-taken unsearched =
+  tells l k strict off starts left (answered (Ok (answer.Event (event.End end))) n) g m zero-taken unsearched = (stays n (zero-taken _ n refl refl), k)
+  tells l k strict off starts left (answered (Ok (answer.Event (event.Data x o v))) n) g m zero-taken unsearched =
       let h = m.its in
-      let same : g.1.heads.its ≡ h = (let q : header.Header g.1.heads.its ≡ header.Header h = sym g.1.heads.is_read ∙ m.read in cc) in
+      let same : g.1.heads.its ≡ h = (let q : Ok (status.Complete g.1.heads.its) ≡ Ok (status.Complete h) = sym g.1.heads.is_read ∙ m.read in cc) in
       let id : h.id ≡ x = sym (ap (λ (y : TagHeader). y.id) same) ∙ g.1.heads.same_id in
       let kind : h.kind ≡ value_kind v = (header_spec t b h m.read).kind ∙ ap (data_type_of t) id ∙ sym g.0 in
       let i = value_after t (drop p w) h m.size (longer h m.read) m.known (λ q. no_master_lem v (sym kind ∙ q)) at in
       let sum : p + (h.len + m.size) ≡ p + n = omega (arith, m.count) in
       let place : drop (h.len + m.size) (drop p w) ≡ drop (p + n) w = drop-drop (h.len + m.size) p w ∙ ap (λ (j : ℕ). drop j w) sum in
       (subst (KnownSizes t) place i, k)
-  tells l k strict off starts left (answered (answer.NeedMore missing) n) g m zero-taken unsearched = (stays n (zero-taken _ n refl refl), k)
-  tells l k strict off starts left (answered answer.Finished n) g m zero-taken unsearched = (stays n (zero-taken _ n refl refl), k)
-  tells l k strict off starts left (answered (answer.Refused r) n) g m zero-taken unsearched = (stays n (zero-taken _ n refl refl), k)
+  tells l k strict off starts left (answered (Ok (answer.NeedMore missing)) n) g m zero-taken unsearched = (stays n (zero-taken _ n refl refl), k)
+  tells l k strict off starts left (answered (Ok answer.Finished) n) g m zero-taken unsearched = (stays n (zero-taken _ n refl refl), k)
+  tells l k strict off starts left (answered (Err r) n) g m zero-taken unsearched = (stays n (zero-taken _ n refl refl), k)
   tells l k strict off starts left (searched a n) g m zero-taken unsearched = absurd (unsearched a n refl)
   tells l k strict off starts left silent g m zero-taken unsearched = (stays 0 refl, k)
 
 -- ---- of any calls
 
-module _ (es ps w : List ℕ) (checked : check_table es ps ≡ Passed) (all : KnownSizes (table_of es ps) w) (s rest : List ℕ) (is : s ++ rest ≡ w) where
+module _ (es ps w : List ℕ) (checked : check_table es ps ≡ (Ok tt)) (all : KnownSizes (table_of es ps) w) (s rest : List ℕ) (is : s ++ rest ≡ w) where
   abbrev t : List Entry
   t = table_of es ps
 
@@ -205,12 +206,12 @@ module _ (es ps w : List ℕ) (checked : check_table es ps ≡ Passed) (all : Kn
       record { inside = within es ps s cs c l.0 i.0 k.inside; at = r.0; known = r.1 }
 
 -- where all sizes are known, so are those of the Starts that are handed out
-pub known_starts : (es ps w : List ℕ) → check_table es ps ≡ Passed → KnownSizes (table_of es ps) w → StartsKnown es ps w
+pub known_starts : (es ps w : List ℕ) → check_table es ps ≡ Ok tt → KnownSizes (table_of es ps) w → StartsKnown es ps w
 known_starts es ps w checked all = record { known = λ s rest is cs l i. (reading es ps w checked all s rest is cs l i).known }
 
 -- ---- of what the writer writes
 
-module _ (es ps items vals out : List ℕ) (n : ℕ) (e : (write es ps items vals out).0 ≡ Written n) where
+module _ (es ps items vals out : List ℕ) (n : ℕ) (e : (write es ps items vals out).0 ≡ Ok n) where
   -- every size in what is written is known
   pub written_sizes : KnownSizes (table_of es ps) (written es ps items vals out n)
   written_sizes =

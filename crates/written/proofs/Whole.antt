@@ -38,7 +38,6 @@ use Rattle.tag_writer.specs.Document.{value, master, Run, none, then, run_bytes}
 use Rattle.tag_writer.specs.Items.{marks_of, run_of}
 use Rattle.tag_writer.specs.ReadBack.{is_taken}
 use Rattle.tag_writer.specs.Write.{write}
-use Rattle.tag_writer.specs.declared.types.Wrote.TheVariants.{Written}
 use Rattle.tag_writer.proofs.InRange.{all_taken}
 use Rattle.tag_writer.proofs.Lengths.{run_length}
 use Rattle.tag_writer.proofs.Reading.{element_events, run_events}
@@ -50,6 +49,7 @@ use Rattle.written.proofs.Cut.{written_bytes}
 use Rattle.written.proofs.Depths.{is_root, is_in_root, one, count_in, roots_shown, masters_shown_lem, events_few}
 use Rattle.written.proofs.Octets.{written_octets}
 use Rattle.written.proofs.Pieces.{written_near}
+use Rattle.std.specs.Prelude.{Ok}
 
 -- ---- one answer
 
@@ -62,9 +62,9 @@ top_sized {k} {d} top =
 
 -- an event is seen by the check as it stands in the document, with i masters open before it and j after it
 record SeenAs (i : ℕ) (e : Event) (j : ℕ) (d : TagDecoder) : Type 0 where
-  size : has_size (answer.Event e) d ≡ true
-  root : (l : List Event) → one (is_record (answer.Event e) d) + count_in is_root j l ≡ count_in is_root i (e ∷ l)
-  in_root : (l : List Event) → one (is_feed (answer.Event e) d) + count_in is_in_root j l ≡ count_in is_in_root i (e ∷ l)
+  size : has_size (Ok (answer.Event e)) d ≡ true
+  root : (l : List Event) → one (is_record (Ok (answer.Event e)) d) + count_in is_root j l ≡ count_in is_root i (e ∷ l)
+  in_root : (l : List Event) → one (is_feed (Ok (answer.Event e)) d) + count_in is_in_root j l ≡ count_in is_in_root i (e ∷ l)
 
 seen_as : {i j : ℕ} {e : Event} {d : TagDecoder} → Shows i e j d → SeenAs i e j d
 unfolding count_in
@@ -87,7 +87,7 @@ finish_before a [] f = absurd (false≢true f)
 finish_before a (b ∷ l) f = f
 
 -- one answer before others
-shown_more : {i j : ℕ} {e : Event} {evs : List Event} {d : TagDecoder} {l : List Answered} → Shows i e j d → Shown j evs l → Shown i (e ∷ evs) (record { answer = answer.Event e; after = d } ∷ l)
+shown_more : {i j : ℕ} {e : Event} {evs : List Event} {d : TagDecoder} {l : List Answered} → Shows i e j d → Shown j evs l → Shown i (e ∷ evs) (record { answer = Ok (answer.Event e); after = d } ∷ l)
 unfolding all_sized records feeds
 shown_more {evs} {l} h s =
     let w = seen_as h in
@@ -99,22 +99,22 @@ shown_more {evs} {l} h s =
     }
 
 -- the finish alone
-shown_last : (k : ℕ) (a : Answered) → a.answer ≡ answer.Finished → Shown k [] (a ∷ [])
+shown_last : (k : ℕ) (a : Answered) → a.answer ≡ Ok answer.Finished → Shown k [] (a ∷ [])
 unfolding finishes all_sized records feeds count_in
 shown_last k a f = rw f (record { finish = refl; sizes = refl; roots = refl; in_roots = refl })
 
 module _ (es ps : List ℕ) where
   -- a call that answers an event is the next answer at the end of input too
-  reads_next : (m : ℕ) (d : TagDecoder) (s : List ℕ) {d1 : TagDecoder} {e : Event} {n : ℕ} → d.finished ≡ false → decode es ps d s ≡ gives (answer.Event e) n d1
-      → read_from es ps (suc m) d s ≡ record { answer = answer.Event e; after = d1 } ∷ read_from es ps m d1 (drop n s)
+  reads_next : (m : ℕ) (d : TagDecoder) (s : List ℕ) {d1 : TagDecoder} {e : Event} {n : ℕ} → d.finished ≡ false → decode es ps d s ≡ gives (Ok (answer.Event e)) n d1
+      → read_from es ps (suc m) d s ≡ record { answer = Ok (answer.Event e); after = d1 } ∷ read_from es ps m d1 (drop n s)
   reads_next m d s {d1} {e} {n} f c =
       let quiet : needs_more (decode es ps d s).answer ≡ false = ap (λ (r : Decoded). needs_more r.answer) c in
-      let same : decode_eof es ps d s ≡ gives (answer.Event e) n d1 = eof_as_decoded es ps d s f quiet ∙ c in
+      let same : decode_eof es ps d s ≡ gives (Ok (answer.Event e)) n d1 = eof_as_decoded es ps d s f quiet ∙ c in
       read_on es ps m d s (ap (λ (r : Decoded). is_event r.answer) same)
       ∙ ap (λ (r : Decoded). answered_by r ∷ read_from es ps m r.state (drop r.taken s)) same
 
   -- the answers to bytes whose calls tell events, up to the finish, show them
-  shown : {evs : List Event} {i k : ℕ} {d d' : TagDecoder} {s : List ℕ} → Tells es ps evs i d s k d' [] → d.finished ≡ false → (decode_eof es ps d' []).answer ≡ answer.Finished
+  shown : {evs : List Event} {i k : ℕ} {d d' : TagDecoder} {s : List ℕ} → Tells es ps evs i d s k d' [] → d.finished ≡ false → (decode_eof es ps d' []).answer ≡ Ok answer.Finished
       → (n : ℕ) → length evs < n → Shown i evs (read_from es ps n d s)
   shown t f z zero h = absurd (omega arith)
   shown (nothing {k} {d}) f z (suc n) h = rw (read_last es ps n d [] (ap is_event z)) (shown_last k (answered_by (decode_eof es ps d [])) z)
@@ -148,7 +148,7 @@ one_begins none b = absurd (false≢true b)
 one_begins (then e none) b = (b, refl)
 one_begins (then e (then f r)) b = absurd (false≢true b)
 
-module _ (es ps items vals out : List ℕ) (n : ℕ) (e : (write es ps items vals out).0 ≡ Written n) (octets : Octets vals) where
+module _ (es ps items vals out : List ℕ) (n : ℕ) (e : (write es ps items vals out).0 ≡ Ok n) (octets : Octets vals) where
   abbrev doc : Run
   doc = run_of (marks_of vals items)
 
@@ -226,7 +226,7 @@ module _ (es ps items vals out : List ℕ) (n : ℕ) (e : (write es ps items val
 
 -- a night written with the bench table, of one root, that comes in any pieces to the check with a buffer of so many
 -- bytes
-module _ (items vals out : List ℕ) (n : ℕ) (e : (write bench_entries bench_parts items vals out).0 ≡ Written n) (octets : Octets vals) (root : is_one_root (run_of (marks_of vals items)) ≡ true)
+module _ (items vals out : List ℕ) (n : ℕ) (e : (write bench_entries bench_parts items vals out).0 ≡ Ok n) (octets : Octets vals) (root : is_one_root (run_of (marks_of vals items)) ≡ true)
     (strict : Bool) (taken : every (is_taken strict) (marks_of vals items) ≡ true)
     (size : ℕ) (some : 0 < size) (pieces : List (List ℕ)) (apart : NoneEmpty pieces) (is : joined pieces ≡ written bench_entries bench_parts items vals out n)
     {l : List Answered} (run : Runs (listing.started strict) (replicate size 0) pieces l) where

@@ -1,6 +1,6 @@
 -- When what is written cannot look whole although it was cut: a document of one root, from the writer of document 02's
 -- CR 2.
-use Rattle.std.specs.Prelude.{ℕ, ◌<◌, ◌≡◌, Bool, true, false, List, ◌∷◌, ◌++◌, length, take}
+use Rattle.std.specs.Prelude.{ℕ, ◌<◌, ◌≡◌, Bool, true, false, List, ◌∷◌, ◌++◌, length, take, Ok}
 use Rattle.decoder_rules.specs.Settings.{is_finished}
 use Rattle.decoder_rules.specs.declared.types.Answer.TheVariants as answer
 use Rattle.guarantees.specs.Calls.{Call, record_after, Lent}
@@ -28,6 +28,6 @@ is_one_root (then e (then f r)) = false
 -- pieces, with whatever settings and without recovery, no call answers the finish, and `is_finished` never says so
 pub record NoCutLooksWhole (es ps w : List ℕ) : Type 0 where
   pub unanswered : (s rest : List ℕ) → s ++ rest ≡ w → 0 < length s → length s < length w
-      → (cs : List Call) (c : Call) → Lent (c ∷ cs) → InOrder es ps s (c ∷ cs) → Answers es ps cs c answer.Finished → ⊥
+      → (cs : List Call) (c : Call) → Lent (c ∷ cs) → InOrder es ps s (c ∷ cs) → Answers es ps cs c (Ok answer.Finished) → ⊥
   pub unfinished : (s rest : List ℕ) → s ++ rest ≡ w → 0 < length s → length s < length w
       → (cs : List Call) → Lent cs → InOrder es ps s cs → is_finished (record_after es ps cs) ≡ false

@@ -1,6 +1,6 @@
 -- A written document that comes in pieces: a run of `decode` for each when it comes, on the unread rest followed by it
 -- (joining/specs/Joining.antt).
-use Rattle.std.specs.Prelude.{ℕ, Bool, ◌≡◌, List, [], ◌++◌, map}
+use Rattle.std.specs.Prelude.{ℕ, Bool, ◌≡◌, List, [], ◌++◌, map, Ok}
 use Rattle.decoder_rules.specs.Deciding.{least_header}
 use Rattle.decoder_rules.specs.EndOfInput.{decode_eof}
 use Rattle.decoder_rules.specs.Record.{fresh}
@@ -21,6 +21,6 @@ lent_in_pieces strict es ps first later = in_pieces es ps (run es ps (reading fr
 pub record IsReadInPieces (strict : Bool) (es ps : List ℕ) (first : List ℕ) (later : List (List ℕ)) (ms : List Mark) : Type 0 where
   pub same : map (said (first ++ joined later)) (events_of (lent_in_pieces strict es ps first later)) ≡ ms
   pub counts : said_counts (events_of (lent_in_pieces strict es ps first later)) ≡ run_counts (run_of ms)
-  pub needs_more_lem : (lent_in_pieces strict es ps first later).last ≡ answer.NeedMore least_header
+  pub needs_more_lem : (lent_in_pieces strict es ps first later).last ≡ Ok (answer.NeedMore least_header)
   pub all_read : (lent_in_pieces strict es ps first later).rest ≡ []
-  pub finish : (decode_eof es ps (lent_in_pieces strict es ps first later).state []).answer ≡ answer.Finished
+  pub finish : (decode_eof es ps (lent_in_pieces strict es ps first later).state []).answer ≡ Ok answer.Finished

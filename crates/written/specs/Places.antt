@@ -1,7 +1,7 @@
 -- What is written is read where it was put: in a document that begins with a root every element lies where the table
 -- has it, and an End's count is the number of the elements in its master. So what the pump writes is what the importer
 -- files. Document 02, CR 12, of what CR 2's writer writes.
-use Rattle.std.specs.Prelude.{ℕ, ◌<◌, ◌≡◌, true, List, ◌∷◌, ◌++◌, length}
+use Rattle.std.specs.Prelude.{ℕ, ◌<◌, ◌≡◌, true, List, ◌∷◌, ◌++◌, length, Ok}
 use Rattle.table.specs.Table.{table_of, path_of}
 use Rattle.decoder_rules.specs.declared.types.Answer.TheVariants as answer
 use Rattle.decoder_rules.specs.declared.types.Event.{Event}
@@ -24,11 +24,11 @@ pub record PlacesKnown (es ps w : List ℕ) : Type 0 where
   -- and an End comes where its master ends, with the number of the elements that fill it, if the child-size test was
   -- never off
   pub end_counts_lem : (s rest : List ℕ) → s ++ rest ≡ w → (cs : List Call) (c : Call) → Lent (c ∷ cs) → InOrder es ps s (c ∷ cs) → child_test_never_off cs ≡ true
-      → (end : WaitingEnd) → Answers es ps cs c (answer.Event (event.End end)) → EndCounts es ps s cs end
+      → (end : WaitingEnd) → Answers es ps cs c (Ok (answer.Event (event.End end))) → EndCounts es ps s cs end
 
 -- what the pump writes is what the importer files, who files at the finish what is read in order: a front of w that is
 -- not empty and comes to the finish is all of w, every byte of it taken, and every element lay where the table has it
 pub record FiledAsWritten (es ps w : List ℕ) : Type 0 where
   pub all_there : (s rest : List ℕ) → s ++ rest ≡ w → 0 < length s → (cs : List Call) (c : Call) → Lent (c ∷ cs) → InOrder es ps s (c ∷ cs)
-      → Answers es ps cs c answer.Finished → (s ≡ w) × (position_at es ps cs ≡ length w)
+      → Answers es ps cs c (Ok answer.Finished) → (s ≡ w) × (position_at es ps cs ≡ length w)
   pub places : PlacesKnown es ps w

@@ -16,8 +16,8 @@ returns-then-all_masters c d shown =
     let tested : (d : TagDecoder) → let a = c.args in ShownIds a.ids.now a.n (opens d) → every (λ m. is_master (data_type_of (table_of a.entries.now a.parts.now) m.id)) (drop a.k (opens d)) ≡ c.all_masters.result = λ d shown. sym (c.all_masters.ensures ∙ every_shown (λ x. is_master (data_type_of _ x)) c.args.k c.requires shown) in
     rw (tested d shown, c.if-all_masters.true)
 
-pub returns : goal.returns
+pub returns-else-all_masters : goal.returns-else-all_masters
 unfolding close_or_fault
-returns c d shown =
+returns-else-all_masters c d shown =
     let tested : (d : TagDecoder) → let a = c.args in ShownIds a.ids.now a.n (opens d) → every (λ m. is_master (data_type_of (table_of a.entries.now a.parts.now) m.id)) (drop a.k (opens d)) ≡ c.all_masters.result = λ d shown. sym (c.all_masters.ensures ∙ every_shown (λ x. is_master (data_type_of _ x)) c.args.k c.requires shown) in
     rw (tested d shown, c.if-all_masters.false)

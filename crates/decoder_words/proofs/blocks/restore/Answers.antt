@@ -3,5 +3,5 @@ use Rattle.std.proofs.Common.{rules}
 use Rattle.decoder_words.proofs.Answered.{restore_refused}
 use Rattle.decoder_words.proofs.blocks.restore.Goals as goal
 
-pub returns-in-Refused : goal.returns-in-Refused
-returns-in-Refused c = search (restore_refused c.args.words.now c.args.block.now, rules)
+pub returns-in-Err : goal.returns-in-Err
+returns-in-Err c = search (restore_refused c.args.words.now c.args.block.now, rules)

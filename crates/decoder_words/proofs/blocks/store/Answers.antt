@@ -4,12 +4,12 @@ use Rattle.decoder_words.proofs.blocks.store.Goals as goal
 
 pub record_of-d-requires : goal.record_of-d-requires
 record_of-d-requires c =
-    taken_length c.args.words.now c.check_words.ensures c.in-Accepted.is
+    taken_length c.args.words.now c.check_words.ensures c.in-Ok.is
 
-pub returns-in-Accepted : goal.returns-in-Accepted
-returns-in-Accepted c =
-    stores c.args.words.now c.check_words.ensures c.in-Accepted.is c.record_of-d.ensures c.args.block.now c.store.ensures c.acceptance_code.ensures
+pub returns-in-Ok : goal.returns-in-Ok
+returns-in-Ok c =
+    stores c.args.words.now c.check_words.ensures c.in-Ok.is c.record_of-d.ensures c.args.block.now c.store.ensures c.acceptance_code.ensures
 
-pub returns-in-Refused : goal.returns-in-Refused
-returns-in-Refused c =
-    store_refused c.args.words.now c.check_words.ensures c.in-Refused.is c.args.block.now c.words_refused.ensures
+pub returns-in-Err : goal.returns-in-Err
+returns-in-Err c =
+    store_refused c.args.words.now c.check_words.ensures c.in-Err.is c.args.block.now c.words_refused.ensures

@@ -1,18 +1,8 @@
--- `decoder_words::settings::is_finished`, by what the check of the words answers. Assumes nothing.
-use mathlib.Core.Path.{ap, ◌∙◌}
+-- `decoder_words::settings::is_finished`. Assumes nothing.
+use Rattle.std.proofs.Common.{rules}
 use Rattle.decoder_rules.specs.Settings.{is_finished}
 use Rattle.stored_decoder.specs.Words.{yes_no}
-use Rattle.decoder_words.proofs.Answered.{taken_length, tells, tell_refused}
 use Rattle.decoder_words.proofs.settings.is_finished.Goals as goal
 
-pub record_of-d-requires : goal.record_of-d-requires
-record_of-d-requires c =
-    taken_length c.args.words.now c.check_words.ensures c.in-Accepted.is
-
-pub returns-in-Accepted : goal.returns-in-Accepted
-returns-in-Accepted c =
-    tells c.args.words.now c.check_words.ensures c.in-Accepted.is c.record_of-d.ensures (λ d. yes_no (is_finished d)) (c.yes_no.ensures ∙ ap yes_no c.is_finished.ensures) c.told.ensures
-
-pub returns-in-Refused : goal.returns-in-Refused
-returns-in-Refused c =
-    tell_refused c.args.words.now c.check_words.ensures c.in-Refused.is (λ d. yes_no (is_finished d)) c.untold.ensures
+pub returns : goal.returns
+returns c = c.tell.ensures (λ d. yes_no (is_finished d)) (λ d n p. search rules)

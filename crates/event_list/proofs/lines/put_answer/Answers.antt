@@ -1,21 +1,23 @@
 -- `event_list::lines::put_answer`, by the answer. Assumes nothing.
+use mathlib.Core.Path.{◌∙◌, ap}
 use native.Mathlib.Omega.{arith}
 use Rattle.event_list.specs.Line.{answer_text}
 use Rattle.numerals.proofs.Putting.{within}
 use Rattle.event_list.proofs.lines.put_answer.Goals as goal
+use Rattle.std.specs.Prelude.{Ok}
 
-pub returns-in-Event : goal.returns-in-Event
+pub returns-in-Ok-Event : goal.returns-in-Ok-Event
 unfolding answer_text
-returns-in-Event c = rw c.in-Event.is c.put_event.ensures
+returns-in-Ok-Event c = rw (c.in-Ok-Event.is ∙ ap Ok (rw c.in-Ok-Event.is at c.in-Ok-Event.field-0-is)) c.put_event.ensures
 
-pub returns-in-NeedMore : goal.returns-in-NeedMore
+pub returns-in-Ok-NeedMore : goal.returns-in-Ok-NeedMore
 unfolding answer_text
-returns-in-NeedMore c = rw c.in-NeedMore.is (within (omega arith) c.put_position.ensures)
+returns-in-Ok-NeedMore c = rw (c.in-Ok-NeedMore.is ∙ ap Ok (rw c.in-Ok-NeedMore.is at c.in-Ok-NeedMore.field-0-is)) (within (omega arith) c.put_position.ensures)
 
-pub returns-in-Finished : goal.returns-in-Finished
+pub returns-in-Ok-Finished : goal.returns-in-Ok-Finished
 unfolding answer_text
-returns-in-Finished c = rw c.in-Finished.is (within (omega arith) c.put_position-in-Finished.ensures)
+returns-in-Ok-Finished c = rw (c.in-Ok-Finished.is ∙ ap Ok (rw c.in-Ok-Finished.is at c.in-Ok-Finished.field-0-is)) (within (omega arith) c.put_position-in-Ok-Finished.ensures)
 
-pub returns-in-Refused : goal.returns-in-Refused
+pub returns-in-Err : goal.returns-in-Err
 unfolding answer_text
-returns-in-Refused c = rw c.in-Refused.is (within (omega arith) c.put_refusal.ensures)
+returns-in-Err c = rw c.in-Err.is (within (omega arith) c.put_refusal.ensures)

@@ -4,13 +4,13 @@ use Rattle.event_list.proofs.Buffers.{call_once_is}
 use Rattle.event_list.proofs.Taking.{part_takes}
 use Rattle.event_list.proofs.listing.call_once.Goals as goal
 
-pub overflow_add-listing : goal.overflow_add-listing
-overflow_add-listing c =
+pub overflow_add-result : goal.overflow_add-result
+overflow_add-result c =
     let a = c.args in
-    let u = c.least-upto.result in
-    let n = part_takes a.l.ended a.l.decoder a.buffer.now (u - c.least-from.result) c.least-from.result (λ i. (c.type_inv.buffer i).fits) c.call-r.ensures in
+    let u = c.min-upto.result in
+    let n = part_takes a.l.ended a.l.decoder a.buffer.now (u - c.min-from.result) c.min-from.result (λ i. (c.type_inv.buffer i).fits) c.call-answer.ensures in
     omega arith
 
 pub returns : goal.returns
 returns c =
-    call_once_is c.args.l c.args.buffer.now c.least-upto.ensures.0 c.least-from.ensures.0 c.call-r.ensures c.next_of.ensures
+    call_once_is c.args.l c.args.buffer.now c.min-upto.ensures c.min-from.ensures c.call-answer.ensures c.next_of.ensures

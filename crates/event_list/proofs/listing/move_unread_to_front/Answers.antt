@@ -5,4 +5,4 @@ use Rattle.event_list.proofs.listing.move_unread_to_front.Goals as goal
 
 pub returns : goal.returns
 returns c =
-    (moved_to_front_is c.args.l c.args.buffer.now c.least-upto.ensures.0 c.least-from.ensures.0 c.shift.ensures, omega arith)
+    (moved_to_front_is c.args.l c.args.buffer.now c.min-upto.ensures c.min-from.ensures c.shift.ensures, omega arith)

@@ -1,14 +1,13 @@
--- `event_list::listing::shift`. The invariant: the first i bytes are those from `from` on, the others as they came. The
--- measure is how many are left to move. Assumes nothing.
-use Prim.Native.Nat.{◌+◌, ◌<◌}
+-- `event_list::listing::shift`: the copy, whose place in front is 0. Assumes nothing.
+use Prim.Native.Nat.{◌+◌, ◌-◌}
+use mathlib.Core.Path.{ap₂, ◌∙◌}
+use mathlib.Core.List.{◌++◌}
 use native.Mathlib.Omega.{arith}
-use lib.ListN.{length, length-set}
-use Rattle.event_list.proofs.Buffers.{shift_more}
+use lib.ListN.{take, drop}
 use Rattle.event_list.proofs.listing.shift.Goals as goal
 
-pub loop-i-preserved : goal.loop-i-preserved
-loop-i-preserved c =
-    let l = c.loop-i in
+pub returns : goal.returns
+returns c =
     let a = c.args in
-    let h : a.from + l.i < length a.buffer.now = omega arith in
-    (omega arith, simp length-set l.invariant.1, rw l.invariant.2 (shift_more a.buffer.now a.from l.i h))
+    c.copy_within.ensures.after
+    ∙ ap₂ (λ n k. take n (drop a.from a.buffer.now) ++ drop k a.buffer.now) (omega arith) (omega arith)

@@ -1,13 +1,9 @@
 -- `named_list::endings::put_finish_word`, by the tests. Assumes nothing.
 use native.Mathlib.Omega.{arith}
 use Rattle.numerals.proofs.Putting.{within}
-use borrow.Author.Tests.{eq-eqb, ne_eqb}
+use borrow.Author.Tests.{ne_eqb}
 use Rattle.named_list.specs.Named.{finish_word}
 use Rattle.named_list.proofs.endings.put_finish_word.Goals as goal
-
-pub returns-then-position-eq0 : goal.returns-then-position-eq0
-unfolding finish_word
-returns-then-position-eq0 c = simp (eq-eqb _ _ c.if-position-eq0.true) (within (omega arith) c.put_text.ensures)
 
 pub returns-then-front : goal.returns-then-front
 unfolding finish_word
@@ -18,8 +14,3 @@ pub returns-then-size : goal.returns-then-size
 unfolding finish_word
 returns-then-size c =
     simp (ne_eqb _ _ c.if-position-eq0.false, c.if-front.false, c.if-size.true) (within (omega arith) c.put_text-then-size.ensures)
-
-pub returns : goal.returns
-unfolding finish_word
-returns c =
-    simp (ne_eqb _ _ c.if-position-eq0.false, c.if-front.false, c.if-size.false) (within (omega arith) c.put_text-2.ensures)

@@ -3,21 +3,9 @@ use native.Mathlib.Omega.{arith}
 use Prim.Native.Nat.{◌+◌, ◌*◌}
 use lib.ListN.{length}
 use Rattle.numerals.proofs.Putting.{and_then, within}
-use Rattle.texts.proofs.Putting.{put_none, put_whole}
+use Rattle.texts.proofs.Putting.{put_whole}
 use Rattle.named_list.specs.Named.{named_line, most_named, named_line_out}
 use Rattle.named_list.proofs.lines.put_named_line.Goals as goal
-
-pub returns-then-out-lt-MOST_NAMED : goal.returns-then-out-lt-MOST_NAMED
-unfolding named_line_out
-returns-then-out-lt-MOST_NAMED c =
-    let a = c.args in
-    put_none (most_named + 4 * length a.taken.now) (named_line a.answer a.d a.s a.taken.now) (omega arith)
-
-pub returns-then-out-taken : goal.returns-then-out-taken
-unfolding named_line_out
-returns-then-out-taken c =
-    let a = c.args in
-    put_none (most_named + 4 * length a.taken.now) (named_line a.answer a.d a.s a.taken.now) (omega arith)
 
 pub returns : goal.returns
 unfolding named_line_out named_line

@@ -10,18 +10,6 @@ pub returns-in-14 : goal.returns-in-14
 unfolding header_meaning
 returns-in-14 c = rw c.in-14.is (within (omega arith) c.put_text.ensures)
 
-pub returns-in-15 : goal.returns-in-15
-unfolding header_meaning
-returns-in-15 c = rw c.in-15.is (within (omega arith) c.put_text-in-15.ensures)
-
-pub returns-in-16 : goal.returns-in-16
-unfolding header_meaning
-returns-in-16 c = rw c.in-16.is (within (omega arith) c.put_text-in-16.ensures)
-
-pub returns-in-17 : goal.returns-in-17
-unfolding header_meaning
-returns-in-17 c = rw c.in-17.is (within (omega arith) c.put_text-in-17.ensures)
-
 pub returns-in_default : goal.returns-in_default
 unfolding header_meaning
 returns-in_default c =

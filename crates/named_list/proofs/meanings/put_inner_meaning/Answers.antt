@@ -6,10 +6,6 @@ use Rattle.named_list.specs.Meaning.{inner_meaning}
 use Rattle.texts.specs.Ascii.{ascii}
 use Rattle.named_list.proofs.meanings.put_inner_meaning.Goals as goal
 
-pub returns-in-10 : goal.returns-in-10
-unfolding inner_meaning
-returns-in-10 c = rw c.in-10.is (within (omega arith) c.put_text.ensures)
-
 pub returns-in-11 : goal.returns-in-11
 unfolding inner_meaning
 returns-in-11 c = rw c.in-11.is (within (omega arith) c.put_text-in-11.ensures)

@@ -1,11 +1,12 @@
--- `script_text::reading::read_digits` is safe and ends. Nothing has to hold from digit to digit, so the invariant says
--- nothing. The measure is how many digits are left. Assumes nothing.
-use Prim.Native.Nat.{◌-◌}
-use lib.ListN.{length}
+-- `script_text::reading::read_digits` meets its contract. The invariant: what was read are digits, and those that are
+-- left, read after the number so far, say the whole number. Assumes nothing.
+use Rattle.std.proofs.Common.{◌≡◌, ◌<◌, ℕ, drop, get_or}
+use Rattle.numerals.specs.Numeral.{read_from, read_back}
+use Rattle.script_text.specs.Number.{IsDigit}
 use Rattle.script_text.proofs.reading.read_digits.Given as goal
 
-abbrev pub invariant-loop-i : goal.invariant-loop-i
-invariant-loop-i l = Unit {0}
-
-abbrev pub decreases-loop-i : goal.decreases-loop-i
-decreases-loop-i l = length l.word - l.i
+abbrev pub invariant-loop-byte : goal.invariant-loop-byte
+invariant-loop-byte l = record {
+  digits : (k : ℕ) → k < l.byte-index → IsDigit l.base (get_or l.word k 0);
+  value : read_from l.base l.value (drop l.byte-index l.word) ≡ read_back l.base l.word;
+}

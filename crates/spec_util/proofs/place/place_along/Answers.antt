@@ -21,22 +21,22 @@ ends_none-requires c =
     let k = c.left_open-kept.ensures _ (shows_those_read a.ids.now a.knowns.now c.least_of-count.result w.0 w.1) in
     (omega arith, omega arith)
 
-pub returns-then-not-ends_none : goal.returns-then-not-ends_none
+pub returns-else-ends_none : goal.returns-else-ends_none
 unfolding place_along
-returns-then-not-ends_none c =
+returns-else-ends_none c =
     let within : let a = c.args in (c.least_of-count.result ≤ length a.ids.now) × (c.least_of-count.result ≤ length a.knowns.now) = let e = c.least_of-count.ensures in (omega arith, omega arith) in
     let left : let a = c.args in left_open true (table_of a.entries.now a.parts.now) a.id (masters_shown a.ids.now a.knowns.now a.n) ≡ masters_shown a.ids.now a.knowns.now c.left_open-kept.result =
     let a = c.args in
     let w = within in
     left_shown true _ _ _ _ _ _ _ c.least_of-count.ensures (c.left_open-kept.ensures _ (shows_those_read a.ids.now a.knowns.now c.least_of-count.result w.0 w.1)) in
-    rw (c.if-not-strict.false, left, ← c.ends_none.ensures, c.if-not-ends_none.true)
+    rw (c.if-not-strict.false, left, ← c.ends_none.ensures, c.if-ends_none.false)
 
-pub returns : goal.returns
+pub returns-then-ends_none : goal.returns-then-ends_none
 unfolding place_along
-returns c =
+returns-then-ends_none c =
     let within : let a = c.args in (c.least_of-count.result ≤ length a.ids.now) × (c.least_of-count.result ≤ length a.knowns.now) = let e = c.least_of-count.ensures in (omega arith, omega arith) in
     let left : let a = c.args in left_open true (table_of a.entries.now a.parts.now) a.id (masters_shown a.ids.now a.knowns.now a.n) ≡ masters_shown a.ids.now a.knowns.now c.left_open-kept.result =
     let a = c.args in
     let w = within in
     left_shown true _ _ _ _ _ _ _ c.least_of-count.ensures (c.left_open-kept.ensures _ (shows_those_read a.ids.now a.knowns.now c.least_of-count.result w.0 w.1)) in
-    rw (c.if-not-strict.false, left, ← c.ends_none.ensures, c.if-not-ends_none.false) c.walk_along-2.ensures
+    rw (c.if-not-strict.false, left, ← c.ends_none.ensures, c.if-ends_none.true) c.walk_along-then-ends_none.ensures

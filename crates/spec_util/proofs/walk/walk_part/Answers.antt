@@ -12,18 +12,18 @@ pub returns-then-path_length-marker : goal.returns-then-path_length-marker
 unfolding walk_part
 returns-then-path_length-marker c = rw (← c.path_length.ensures, le-leb _ _ c.if-path_length-marker.true)
 
-pub returns-then-id-master_id : goal.returns-then-id-master_id
+pub returns-in-Id : goal.returns-in-Id
 unfolding walk_at walk_part
-returns-then-id-master_id c =
+returns-in-Id c =
     let path : List PathPart = parts_in (parts_of c.args.parts.now) c.args.path in
     let walked : Walk = walk_part c.args.strict path c.args.master_id c.args.marker c.args.counter in
     let walked_at : PathPart → Walk = λ part. walk_at c.args.strict path part c.args.master_id c.args.marker c.args.counter in
     let by_part : walked ≡ walked_at c.path_part.result = rw (← c.path_length.ensures, lt-leb _ _ c.if-path_length-marker.false, ← c.path_part.ensures) in
     rw (by_part, c.in-Id.is, eq-eqb _ _ c.if-id-master_id.true)
 
-pub returns-else-id-master_id : goal.returns-else-id-master_id
+pub returns-in-Id-2 : goal.returns-in-Id-2
 unfolding walk_at walk_part
-returns-else-id-master_id c =
+returns-in-Id-2 c =
     let path : List PathPart = parts_in (parts_of c.args.parts.now) c.args.path in
     let walked : Walk = walk_part c.args.strict path c.args.master_id c.args.marker c.args.counter in
     let walked_at : PathPart → Walk = λ part. walk_at c.args.strict path part c.args.master_id c.args.marker c.args.counter in

@@ -1,5 +1,5 @@
 -- `stored_decoder::blocks::put_bytes`. The invariant: the bytes of the first i words are written. Assumes nothing.
-use Prim.Native.Nat.{◌-◌, ◌≤◌}
+use Prim.Native.Nat.{◌≤◌}
 use mathlib.Core.Path.{◌≡◌}
 use mathlib.Core.List.{flat_map}
 use lib.ListN.{length, take}
@@ -11,6 +11,3 @@ use Rattle.stored_decoder.proofs.blocks.put_bytes.Given as goal
 
 abbrev pub invariant-loop-i : goal.invariant-loop-i
 invariant-loop-i l = (l.i ≤ word_count) × (length l.block ≡ block_length) × (l.block ≡ over 0 (flat_map (be_bytes 8) (take l.i l.words)) l.initial.block)
-
-abbrev pub decreases-loop-i : goal.decreases-loop-i
-decreases-loop-i l = word_count - l.i

@@ -1,13 +1,15 @@
--- `stored_decoder::words::put_rest`. The invariant: i zeros are written from 300 on. Assumes nothing.
+-- `stored_decoder::words::put_rest`. Assumes nothing.
+use Prim.Native.Nat.{ℕ, ◌-◌}
+use mathlib.Core.Path.{◌≡◌, ap, ◌∙◌}
 use native.Mathlib.Omega.{arith}
-use borrow.Author.Rules.{rules}
-use Rattle.stored_decoder.proofs.Overwriting.{over_none, over_same}
+use borrow.Rule.Slice.PartMut.{put_mid}
+use lib.ListN.{length, take, drop, replicate, length-take, length-drop}
+use Rattle.stored_decoder.specs.Words.{rest_count}
+use Rattle.stored_decoder.proofs.Overwriting.{over_put}
 use Rattle.stored_decoder.proofs.words.put_rest.Goals as goal
 
-pub loop-i-init : goal.loop-i-init
-loop-i-init c = (omega arith, c.requires, over_none 300 c.args.words.now)
-
-pub loop-i-preserved : goal.loop-i-preserved
-loop-i-preserved c =
-    let v = c.loop-i.invariant in
-    (omega arith, search rules, rw v.2 (over_same 300 c.loop-i.i 0 c.args.words.now (omega arith)))
+pub returns : goal.returns
+returns c =
+    let w = c.args.words.now in
+    let n : length (take (length w - 300) (drop 300 w)) ≡ rest_count = simp (length-take, length-drop) (omega arith) in
+    ap (put_mid 300 (length w - 300) w) (c.fill.ensures.after (λ y e. e) ∙ ap (λ (k : ℕ). replicate k 0) n) ∙ over_put 300 (length w - 300) (replicate rest_count 0) w (omega arith)

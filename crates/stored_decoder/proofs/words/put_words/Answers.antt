@@ -15,4 +15,4 @@ returns c =
     let arrays : Arrays c.args.d = record { masters = search length_of_map; ends = search length_of_map } in
     let d = c.args.d in
     written d arrays c.args.words.now c.put_rest.new.words c.requires
-    (c.put_rest.ensures ∙ ap (over 300 (replicate rest_count 0)) (c.put_ends.ensures ∙ ap (λ (l : List ℕ). over 204 (ends_of d) (set l 203 d.waiting_count)) (c.put_masters.ensures ∙ ap (over 11 (masters_of d)) c.put_front.ensures)))
+    (c.put_rest.ensures ∙ ap (over 300 (replicate rest_count 0)) (c.put_places-2.ensures ∙ ap (λ (l : List ℕ). over 204 (ends_of d) (set l 203 d.waiting_count)) (c.put_places.ensures ∙ ap (over 11 (masters_of d)) c.put_front.ensures)))

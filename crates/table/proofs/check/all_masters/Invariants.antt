@@ -1,5 +1,4 @@
 -- `table::check::all_masters`. The invariant: each ID passed is a Master. Assumes nothing.
-use Prim.Native.Nat.{◌-◌, ◌≤◌}
 use mathlib.Core.Path.{◌≡◌}
 use lib.ListN.{drop}
 use Rattle.basics.specs.Lists.{every}
@@ -9,9 +8,5 @@ use Rattle.table.proofs.check.all_masters.Given as goal
 
 abbrev pub invariant-loop-i : goal.invariant-loop-i
 invariant-loop-i l =
-    (l.i ≤ l.count)
-    × (all_masters (table_of l.entries l.parts) (parts_in (parts_of l.parts) l.path)
-    ≡ every (master_or_global (table_of l.entries l.parts)) (drop l.i (parts_in (parts_of l.parts) l.path)))
-
-abbrev pub decreases-loop-i : goal.decreases-loop-i
-decreases-loop-i l = l.count - l.i
+    all_masters (table_of l.entries l.parts) (parts_in (parts_of l.parts) l.path)
+    ≡ every (master_or_global (table_of l.entries l.parts)) (drop l.i (parts_in (parts_of l.parts) l.path))

@@ -1,5 +1,4 @@
 -- `table::check::only_ids`. The invariant: each part passed is an ID. Assumes nothing.
-use Prim.Native.Nat.{◌-◌, ◌≤◌}
 use mathlib.Core.Path.{◌≡◌}
 use lib.ListN.{drop}
 use Rattle.basics.specs.Lists.{every}
@@ -8,7 +7,4 @@ use Rattle.table.specs.Check.{is_id, only_ids}
 use Rattle.table.proofs.check.only_ids.Given as goal
 
 abbrev pub invariant-loop-i : goal.invariant-loop-i
-invariant-loop-i l = (l.i ≤ l.count) × (only_ids (parts_in (parts_of l.parts) l.path) ≡ every is_id (drop l.i (parts_in (parts_of l.parts) l.path)))
-
-abbrev pub decreases-loop-i : goal.decreases-loop-i
-decreases-loop-i l = l.count - l.i
+invariant-loop-i l = only_ids (parts_in (parts_of l.parts) l.path) ≡ every is_id (drop l.i (parts_in (parts_of l.parts) l.path))

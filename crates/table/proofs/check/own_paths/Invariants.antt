@@ -1,6 +1,5 @@
 -- `table::check::own_paths`. The invariant: each part passed is an ID whose own path is what stands before it. Assumes
 -- nothing.
-use Prim.Native.Nat.{◌-◌, ◌≤◌}
 use mathlib.Core.Path.{◌≡◌}
 use mathlib.Core.List.{[]}
 use lib.ListN.{take, drop}
@@ -10,9 +9,5 @@ use Rattle.table.proofs.check.own_paths.Given as goal
 
 abbrev pub invariant-loop-i : goal.invariant-loop-i
 invariant-loop-i l =
-    (l.i ≤ l.count)
-    × (own_paths (table_of l.entries l.parts) [] (parts_in (parts_of l.parts) l.path)
-    ≡ own_paths (table_of l.entries l.parts) (take l.i (parts_in (parts_of l.parts) l.path)) (drop l.i (parts_in (parts_of l.parts) l.path)))
-
-abbrev pub decreases-loop-i : goal.decreases-loop-i
-decreases-loop-i l = l.count - l.i
+    own_paths (table_of l.entries l.parts) [] (parts_in (parts_of l.parts) l.path)
+    ≡ own_paths (table_of l.entries l.parts) (take l.i (parts_in (parts_of l.parts) l.path)) (drop l.i (parts_in (parts_of l.parts) l.path))

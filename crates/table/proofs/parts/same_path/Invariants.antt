@@ -1,5 +1,4 @@
 -- `table::parts::same_path`. The invariant: the parts passed are equal in pairs, so the rests decide. Assumes nothing.
-use Prim.Native.Nat.{◌-◌, ◌≤◌}
 use mathlib.Core.Path.{◌≡◌}
 use lib.ListN.{drop}
 use Rattle.table.specs.Table.{parts_of, parts_in, same_path}
@@ -7,9 +6,5 @@ use Rattle.table.proofs.parts.same_path.Given as goal
 
 abbrev pub invariant-loop-i : goal.invariant-loop-i
 invariant-loop-i l =
-    (l.i ≤ l.count)
-    × (same_path (parts_in (parts_of l.parts) l.a) (parts_in (parts_of l.parts) l.b)
-    ≡ same_path (drop l.i (parts_in (parts_of l.parts) l.a)) (drop l.i (parts_in (parts_of l.parts) l.b)))
-
-abbrev pub decreases-loop-i : goal.decreases-loop-i
-decreases-loop-i l = l.count - l.i
+    same_path (parts_in (parts_of l.parts) l.a) (parts_in (parts_of l.parts) l.b)
+    ≡ same_path (drop l.i (parts_in (parts_of l.parts) l.a)) (drop l.i (parts_in (parts_of l.parts) l.b))

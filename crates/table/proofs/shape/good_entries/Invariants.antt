@@ -1,5 +1,5 @@
 -- `table::shape::good_entries`. The invariant: each entry passed is good. Assumes nothing.
-use Prim.Native.Nat.{ℕ, ◌-◌, ◌≤◌}
+use Prim.Native.Nat.{ℕ}
 use mathlib.Core.Path.{◌≡◌}
 use mathlib.Core.Bool.{Bool}
 use lib.ListN.{drop}
@@ -12,7 +12,4 @@ abbrev pub good : ℕ → ℕ → ℕ → ℕ → ℕ → Bool
 good all id kind first count = good_entry all kind first count
 
 abbrev pub invariant-loop-i : goal.invariant-loop-i
-invariant-loop-i l = (l.i ≤ l.count) × (good_entries l.all l.entries ≡ every (λ (good : Bool). good) (drop l.i (fours (good l.all) l.entries)))
-
-abbrev pub decreases-loop-i : goal.decreases-loop-i
-decreases-loop-i l = l.count - l.i
+invariant-loop-i l = good_entries l.all l.entries ≡ every (λ (good : Bool). good) (drop l.i (fours (good l.all) l.entries))

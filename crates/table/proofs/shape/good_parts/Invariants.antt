@@ -1,5 +1,4 @@
 -- `table::shape::good_parts`. The invariant: each part passed is good. Assumes nothing.
-use Prim.Native.Nat.{◌-◌, ◌≤◌}
 use mathlib.Core.Path.{◌≡◌}
 use mathlib.Core.Bool.{Bool}
 use lib.ListN.{drop}
@@ -9,7 +8,4 @@ use Rattle.table.specs.Shape.{good_part, good_parts}
 use Rattle.table.proofs.shape.good_parts.Given as goal
 
 abbrev pub invariant-loop-i : goal.invariant-loop-i
-invariant-loop-i l = (l.i ≤ l.count) × (good_parts l.parts ≡ every (λ (good : Bool). good) (drop l.i (threes good_part l.parts)))
-
-abbrev pub decreases-loop-i : goal.decreases-loop-i
-decreases-loop-i l = l.count - l.i
+invariant-loop-i l = good_parts l.parts ≡ every (λ (good : Bool). good) (drop l.i (threes good_part l.parts))

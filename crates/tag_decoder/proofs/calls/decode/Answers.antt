@@ -26,7 +26,9 @@ use Rattle.basics.proofs.ArrayOf32.{length_of_map}
 use borrow.Author.Rules.{rules}
 use borrow.Author.Tests.{eq-eqb}
 use Rattle.tag_decoder.proofs.calls.decode.Goals as goal
-use Rattle.tag_decoder.proofs.calls.decode.Goals.{then-d-eq0, else-d-eq0, in-Settle, in_default, After-answer_to-answer}
+use Rattle.tag_decoder.proofs.calls.decode.Goals.{then-d-eq0, else-d-eq0, in-Some, in_default, After-answer_to-answer}
+use Rattle.std.specs.Prelude.{Result, Ok}
+use Rattle.decoder_rules.specs.declared.types.DecodeError.{DecodeError}
 
 module _ (c : After-answer_to-answer) where
   -- the Ends are found good or not, so what was seen is what the tests ask
@@ -51,7 +53,7 @@ module _ (c : After-answer_to-answer) where
   unfolding noted
   has_note =
       elim c.match-note.branch [
-        | in-Settle w ↦ rw w.in-Settle.is (w.d-is ∙ w.settled_to-d.ensures)
+        | in-Some w ↦ rw w.in-Some.is (w.d-is ∙ w.settled_to-d.ensures)
         | in_default w ↦ rw w.in_default.is w.d-is
       ]
 
@@ -73,7 +75,7 @@ module _ (c : After-answer_to-answer) where
   top_room f h = top_fits c.match-note.d _ long_noted f (λ k. omega (arith, c.top_place-top.ensures, f.0)) h
 
   -- the answer, where the record is as the action moves it
-  ends : (taken : ℕ) (a : Action) (e : TagDecoder) → taken ≡ taken_by c.decide-decision.result.action → c.decide-decision.result.action ≡ a → e ≡ (move c.match-note.d a).state
+  ends : (taken : ℕ) (a : Result Action DecodeError) (e : TagDecoder) → taken ≡ taken_by c.decide-decision.result.action → c.decide-decision.result.action ≡ a → e ≡ (move c.match-note.d a).state
       → gives c.answer_to-answer.result taken e ≡ decode c.args.entries.now c.args.parts.now c.args.d c.args.input.now
   unfolding apply
   ends taken a e t k h =
@@ -100,103 +102,103 @@ settled_to-d-requires c =
     let decided = c.decide-decision.ensures a.d (with_ends a.d ends_found c.summarize-summary.ensures.0) (shown_in_front c.summarize-summary.ensures.1) in
     let fits : DecisionApplies a.parts.now a.d (length a.input.now) c.decide-decision.result =
     rw decided (decide_applies a.entries.now a.parts.now a.d a.input.now (λ i. (c.type_inv.input i).fits)) in
-    note_settles _ _ (rw c.in-Settle.is at fits.note)
+    note_settles _ _ (rw c.in-Some.is at fits.note)
 
 pub handed_out-d-requires : goal.handed_out-d-requires
 handed_out-d-requires c =
     let m = goal.at.handed_out-d-requires c in
-    hands_out _ _ (rw c.in-HandOut.is at (action_fits m.After-answer_to-answer))
+    hands_out _ _ (rw (c.in-Ok-HandOut.is ∙ ap Ok (rw c.in-Ok-HandOut.is at c.in-Ok-HandOut.field-0-is)) at (action_fits m.After-answer_to-answer))
 
 pub closed_to-d-requires : goal.closed_to-d-requires
 closed_to-d-requires c =
     let m = goal.at.closed_to-d-requires c in
-    closes _ _ _ (rw c.in-Close.is at (action_fits m.After-answer_to-answer))
+    closes _ _ _ (rw (c.in-Ok-Close.is ∙ ap Ok (rw c.in-Ok-Close.is at c.in-Ok-Close.field-0-is)) at (action_fits m.After-answer_to-answer))
 
 pub with_child-requires : goal.with_child-requires
 with_child-requires c =
     let m = goal.at.with_child-requires c in
-    top_room m.After-answer_to-answer (start_counts _ _ _ _ _ (rw c.in-Start.is at (action_fits m.After-answer_to-answer)))
+    top_room m.After-answer_to-answer (start_counts _ _ _ _ _ (rw (c.in-Ok-Start.is ∙ ap Ok (rw c.in-Ok-Start.is at c.in-Ok-Start.field-0-is)) at (action_fits m.After-answer_to-answer)))
 
 pub master_at-requires : goal.master_at-requires
 master_at-requires c =
     let m = goal.at.master_at-requires c in
-    let room = starts _ _ _ _ _ (rw c.in-Start.is at (action_fits m.After-answer_to-answer)) in
+    let room = starts _ _ _ _ _ (rw (c.in-Ok-Start.is ∙ ap Ok (rw c.in-Ok-Start.is at c.in-Ok-Start.field-0-is)) at (action_fits m.After-answer_to-answer)) in
     (omega arith, omega arith)
 
 pub offset_bounds-d-n : goal.offset_bounds-d-n
 offset_bounds-d-n c =
     let m = goal.at.offset_bounds-d-n c in
-    omega (arith, starts _ _ _ _ _ (rw c.in-Start.is at (action_fits m.After-answer_to-answer)))
+    omega (arith, starts _ _ _ _ _ (rw (c.in-Ok-Start.is ∙ ap Ok (rw c.in-Ok-Start.is at c.in-Ok-Start.field-0-is)) at (action_fits m.After-answer_to-answer)))
 
 pub bounds-d-n : goal.bounds-d-n
 bounds-d-n c =
     let m = goal.at.bounds-d-n c in
-    omega (arith, starts _ _ _ _ _ (rw c.in-Start.is at (action_fits m.After-answer_to-answer)))
+    omega (arith, starts _ _ _ _ _ (rw (c.in-Ok-Start.is ∙ ap Ok (rw c.in-Ok-Start.is at c.in-Ok-Start.field-0-is)) at (action_fits m.After-answer_to-answer)))
 
 pub overflow_add-d : goal.overflow_add-d
 overflow_add-d c =
     let m = goal.at.overflow_add-d c in
-    omega (arith, starts _ _ _ _ _ (rw c.in-Start.is at (action_fits m.After-answer_to-answer)))
+    omega (arith, starts _ _ _ _ _ (rw (c.in-Ok-Start.is ∙ ap Ok (rw c.in-Ok-Start.is at c.in-Ok-Start.field-0-is)) at (action_fits m.After-answer_to-answer)))
 
-pub with_child-requires-in-Data : goal.with_child-requires-in-Data
-with_child-requires-in-Data c =
-    let m = goal.at.with_child-requires-in-Data c in
-    top_room m.After-answer_to-answer (data-counts _ _ _ _ _ (rw c.in-Data.is at (action_fits m.After-answer_to-answer)))
+pub with_child-requires-in-Ok-Data : goal.with_child-requires-in-Ok-Data
+with_child-requires-in-Ok-Data c =
+    let m = goal.at.with_child-requires-in-Ok-Data c in
+    top_room m.After-answer_to-answer (data-counts _ _ _ _ _ (rw (c.in-Ok-Data.is ∙ ap Ok (rw c.in-Ok-Data.is at c.in-Ok-Data.field-0-is)) at (action_fits m.After-answer_to-answer)))
 
-pub overflow_add-d-in-Data : goal.overflow_add-d-in-Data
-overflow_add-d-in-Data c =
-    let m = goal.at.overflow_add-d-in-Data c in
-    omega (arith, passes_on _ _ _ _ _ (rw c.in-Data.is at (action_fits m.After-answer_to-answer)))
+pub overflow_add-d-in-Ok-Data : goal.overflow_add-d-in-Ok-Data
+overflow_add-d-in-Ok-Data c =
+    let m = goal.at.overflow_add-d-in-Ok-Data c in
+    omega (arith, passes_on _ _ _ _ _ (rw (c.in-Ok-Data.is ∙ ap Ok (rw c.in-Ok-Data.is at c.in-Ok-Data.field-0-is)) at (action_fits m.After-answer_to-answer)))
 
-pub returns-in-Refuse : goal.returns-in-Refuse
+pub returns-in-Err : goal.returns-in-Err
 unfolding move
-returns-in-Refuse c =
-    let m = goal.at.returns-in-Refuse c in
-    ends m.After-answer_to-answer _ _ _ c.taken_by-taken.ensures c.in-Refuse.is refl
+returns-in-Err c =
+    let m = goal.at.returns-in-Err c in
+    ends m.After-answer_to-answer _ _ _ c.taken_by-taken.ensures c.in-Err.is refl
 
-pub returns-in-NeedMore : goal.returns-in-NeedMore
+pub returns-in-Ok-NeedMore : goal.returns-in-Ok-NeedMore
 unfolding move
-returns-in-NeedMore c =
-    let m = goal.at.returns-in-NeedMore c in
-    ends m.After-answer_to-answer _ _ _ c.taken_by-taken.ensures c.in-NeedMore.is refl
+returns-in-Ok-NeedMore c =
+    let m = goal.at.returns-in-Ok-NeedMore c in
+    ends m.After-answer_to-answer _ _ _ c.taken_by-taken.ensures (c.in-Ok-NeedMore.is ∙ ap Ok (rw c.in-Ok-NeedMore.is at c.in-Ok-NeedMore.field-0-is)) refl
 
-pub returns-in-Finish : goal.returns-in-Finish
+pub returns-in-Ok-Finish : goal.returns-in-Ok-Finish
 unfolding move
-returns-in-Finish c =
-    let m = goal.at.returns-in-Finish c in
-    ends m.After-answer_to-answer _ _ _ c.taken_by-taken.ensures c.in-Finish.is refl
+returns-in-Ok-Finish c =
+    let m = goal.at.returns-in-Ok-Finish c in
+    ends m.After-answer_to-answer _ _ _ c.taken_by-taken.ensures (c.in-Ok-Finish.is ∙ ap Ok (rw c.in-Ok-Finish.is at c.in-Ok-Finish.field-0-is)) refl
 
-pub returns-in-HandOut : goal.returns-in-HandOut
+pub returns-in-Ok-HandOut : goal.returns-in-Ok-HandOut
 unfolding move
-returns-in-HandOut c =
-    let m = goal.at.returns-in-HandOut c in
-    ends m.After-answer_to-answer _ _ _ c.taken_by-taken.ensures c.in-HandOut.is c.handed_out-d.ensures
+returns-in-Ok-HandOut c =
+    let m = goal.at.returns-in-Ok-HandOut c in
+    ends m.After-answer_to-answer _ _ _ c.taken_by-taken.ensures (c.in-Ok-HandOut.is ∙ ap Ok (rw c.in-Ok-HandOut.is at c.in-Ok-HandOut.field-0-is)) c.handed_out-d.ensures
 
-pub returns-in-Close : goal.returns-in-Close
+pub returns-in-Ok-Close : goal.returns-in-Ok-Close
 unfolding move
-returns-in-Close c =
-    let m = goal.at.returns-in-Close c in
-    ends m.After-answer_to-answer _ _ _ c.taken_by-taken.ensures c.in-Close.is c.closed_to-d.ensures
+returns-in-Ok-Close c =
+    let m = goal.at.returns-in-Ok-Close c in
+    ends m.After-answer_to-answer _ _ _ c.taken_by-taken.ensures (c.in-Ok-Close.is ∙ ap Ok (rw c.in-Ok-Close.is at c.in-Ok-Close.field-0-is)) c.closed_to-d.ensures
 
-pub returns-in-Start : goal.returns-in-Start
+pub returns-in-Ok-Start : goal.returns-in-Ok-Start
 unfolding move counted opened with_open with_notes
-returns-in-Start c =
-    let m = goal.at.returns-in-Start c in
+returns-in-Ok-Start c =
+    let m = goal.at.returns-in-Ok-Start c in
     let d = c.match-note.d in
     let top = c.top_place-top.result in
-    let room = starts _ _ _ _ _ (rw c.in-Start.is at (action_fits m.After-answer_to-answer)) in
+    let room = starts _ _ _ _ _ (rw (c.in-Ok-Start.is ∙ ap Ok (rw c.in-Ok-Start.is at c.in-Ok-Start.field-0-is)) at (action_fits m.After-answer_to-answer)) in
     let its_child : set d.«open» top c.with_child.result ≡ counted_last d.open_count d.«open» =
     ap (set d.«open» top) c.with_child.ensures ∙ child_counted d.«open» d.open_count top (omega (arith, room)) c.top_place-top.ensures in
-    ends m.After-answer_to-answer _ _ _ c.taken_by-taken.ensures c.in-Start.is
-    (rw c.master_at.ensures (ap (λ (l : List OpenTag). opened (with_open (at_position d (d.position + c.in-Start.len)) l d.open_count) (master_at c.in-Start.id c.in-Start.size d.position c.in-Start.len)) its_child))
+    ends m.After-answer_to-answer _ _ _ c.taken_by-taken.ensures (c.in-Ok-Start.is ∙ ap Ok (rw c.in-Ok-Start.is at c.in-Ok-Start.field-0-is))
+    (rw c.master_at.ensures (ap (λ (l : List OpenTag). opened (with_open (at_position d (d.position + c.in-Ok-Start.len)) l d.open_count) (master_at c.in-Ok-Start.id c.in-Ok-Start.size d.position c.in-Ok-Start.len)) its_child))
 
-pub returns-in-Data : goal.returns-in-Data
+pub returns-in-Ok-Data : goal.returns-in-Ok-Data
 unfolding move counted with_open with_notes
-returns-in-Data c =
-    let m = goal.at.returns-in-Data c in
+returns-in-Ok-Data c =
+    let m = goal.at.returns-in-Ok-Data c in
     let d = c.match-note.d in
     let top = c.top_place-top.result in
-    let f = data-counts _ _ _ _ _ (rw c.in-Data.is at (action_fits m.After-answer_to-answer)) in
-    let its_child : set d.«open» top c.with_child-in-Data.result ≡ counted_last d.open_count d.«open» =
-    ap (set d.«open» top) c.with_child-in-Data.ensures ∙ child_counted d.«open» d.open_count top f.0 c.top_place-top.ensures in
-    ends m.After-answer_to-answer _ _ _ c.taken_by-taken.ensures c.in-Data.is (ap (λ (l : List OpenTag). with_open (at_position d (d.position + c.in-Data.n)) l d.open_count) its_child)
+    let f = data-counts _ _ _ _ _ (rw (c.in-Ok-Data.is ∙ ap Ok (rw c.in-Ok-Data.is at c.in-Ok-Data.field-0-is)) at (action_fits m.After-answer_to-answer)) in
+    let its_child : set d.«open» top c.with_child-in-Ok-Data.result ≡ counted_last d.open_count d.«open» =
+    ap (set d.«open» top) c.with_child-in-Ok-Data.ensures ∙ child_counted d.«open» d.open_count top f.0 c.top_place-top.ensures in
+    ends m.After-answer_to-answer _ _ _ c.taken_by-taken.ensures (c.in-Ok-Data.is ∙ ap Ok (rw c.in-Ok-Data.is at c.in-Ok-Data.field-0-is)) (ap (λ (l : List OpenTag). with_open (at_position d (d.position + c.in-Ok-Data.n)) l d.open_count) its_child)

@@ -9,9 +9,10 @@ use Rattle.decoder_rules.specs.Recovery.{ending_at, ending}
 use Rattle.decoder_rules.specs.declared.types.Place.{Place}
 use Rattle.decoder_rules.specs.declared.types.Place.TheVariants.{Stop, Found, On}
 use Rattle.tag_decoder.proofs.recovery.ending.Goals as goal
+use Rattle.std.specs.Prelude.{Ok}
 
 other : (start : ℕ) (q : Place) (e : TagDecoder) → (q ≡ Found → ⊥)
-    → record { answer = NotFound (e.position - start); taken = e.position - start; state = e } ≡ ending_at start q e
+    → record { answer = Ok (NotFound (e.position - start)); taken = e.position - start; state = e } ≡ ending_at start q e
 other start Stop e h = refl
 other start Found e h = absurd (h refl)
 other start On e h = refl

@@ -6,6 +6,7 @@ use native.Mathlib.Omega.{arith}
 use lib.Dec.{lit<}
 use lib.Pow.{pow_mono, shl_exact}
 use Rattle.tag_parse.proofs.Cases.{size_unknown, size_known}
+use Rattle.tag_parse.proofs.header.size_of.Goals.{else-length-le9-via-else-length-le9, else-length-le9-via-then-length-le9+else-size-length}
 use Rattle.tag_parse.proofs.header.size_of.Goals as goal
 
 power : (L : ℕ) → L ≤ 9 → (1 * 2 ^ (7 * L)) % 2 ^ 64 ≡ 2 ^ (7 * L)
@@ -18,12 +19,12 @@ too_many v L f h e =
     let p : 2 ^ 65 ≤ 2 ^ (7 * L) = pow_mono l in
     omega arith
 
-pub returns-then-length-gt9 : goal.returns-then-length-gt9
-returns-then-length-gt9 c = sym (size_known _ _ (too_many _ _ c.ranges.size.fits c.if-length-gt9.true))
-
 pub returns-then-size-length : goal.returns-then-size-length
-returns-then-size-length c = sym (size_unknown _ _ (c.if-size-length.true ∙ rw (power c.args.length c.if-length-gt9.false)))
+returns-then-size-length c = sym (size_unknown _ _ (c.if-size-length.true ∙ rw (power c.args.length c.if-length-le9.true)))
 
-pub returns : goal.returns
-returns c =
-    sym (size_known _ _ (λ e. c.if-size-length.false (e ∙ rw (power c.args.length c.if-length-gt9.false))))
+pub returns-else-length-le9 : goal.returns-else-length-le9
+returns-else-length-le9 c =
+    elim c.else-length-le9.branch [
+      | else-length-le9-via-else-length-le9 w ↦ sym (size_known _ _ (too_many _ _ c.ranges.size.fits w.if-length-le9.false))
+      | else-length-le9-via-then-length-le9+else-size-length w ↦ sym (size_known _ _ (λ e. w.if-size-length.false (e ∙ rw (power c.args.length w.if-length-le9.true))))
+    ]

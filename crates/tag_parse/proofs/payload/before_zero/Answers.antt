@@ -1,32 +1,43 @@
--- `tag_parse::payload::before_zero`. The invariant: no byte passed is zero. Assumes nothing.
-use Prim.Native.Nat.{ℕ}
-use mathlib.Core.Path.{◌≡◌, ap, ◌∙◌}
-use borrow.Author.Tests.{eq-eqb, ne_eqb}
+-- `tag_parse::payload::before_zero`: the place of the first zero byte, or the end. Assumes nothing.
+use lib.Dec.{eqb}
+use mathlib.Core.Bool.{Bool, true, false, cond}
+use Prim.Native.Nat.{ℕ, suc, ◌+◌, ◌≤◌}
+use mathlib.Core.Path.{◌≡◌, refl, ◌∙◌, sym}
+use mathlib.Core.List.{List, [], ◌∷◌}
+use borrow.Author.Tests.{eq-eqb, ne_eqb, tests}
+use borrow.Author.Rules.{rules}
 use native.Mathlib.Omega.{arith}
-use lib.ListN.{length, take}
-use lib.Seq.{take_all}
-use mathlib.Core.List.{List}
+use lib.ListN.{length}
 use Rattle.basics.specs.Lists.{first_index}
-use Rattle.basics.proofs.Loops.{first_found, first_next, first_none}
-use Rattle.tag_parse.proofs.payload.before_zero.Invariants.{is_zero}
+use Rattle.std.proofs.lemmas.Iterator.{IsFirst-from_position, YieldsList-from_slice, index_from_first}
+use Rattle.tag_parse.specs.Payload.{before_zero}
 use Rattle.tag_parse.proofs.payload.before_zero.Goals as goal
 
--- the whole list is its first elements
-whole : (l : List ℕ) → first_index is_zero (take (length l) l) ≡ first_index is_zero l
-whole l = ap (first_index is_zero) (take_all (length l) l (omega arith))
+hit : (b : ℕ) (s : List ℕ) → b ≡ 0 → before_zero (b ∷ s) ≡ 0
+unfolding first_index
+hit b s e = rw (eq-eqb _ _ e)
 
-pub returns-then-raw_data-i-eq0 : goal.returns-then-raw_data-i-eq0
-returns-then-raw_data-i-eq0 c =
-    let l = c.args.raw_data.now in
-    let h = first_found is_zero l (length l) (omega arith) c.loop-i.i c.loop-i.invariant.1 0 c.loop-i-test.true (eq-eqb _ _ c.if-raw_data-i-eq0.true) in
-    (h ∙ whole l, omega arith)
+miss : (b : ℕ) (s : List ℕ) → (b ≡ 0 → ⊥) → before_zero (b ∷ s) ≡ before_zero s + 1
+unfolding first_index
+miss b s n = rw (ne_eqb _ _ n)
 
-pub loop-i-preserved : goal.loop-i-preserved
-loop-i-preserved c =
-    let l = c.args.raw_data.now in
-    (omega arith, first_next is_zero l (length l) (omega arith) c.loop-i.i c.loop-i.invariant.1 0 c.loop-i-test.true (ne_eqb _ _ c.if-raw_data-i-eq0.false))
+none : before_zero [] ≡ 0
+unfolding first_index
+none = refl
+
+one_more : (t : Bool) (n m : ℕ) → n ≤ m → cond t 0 (n + 1) ≤ suc m
+one_more true n m h = omega arith
+one_more false n m h = omega arith
+
+at_most : (s : List ℕ) → before_zero s ≤ length s
+unfolding first_index
+at_most [] = omega arith
+at_most (b ∷ s) = one_more (eqb b 0) (before_zero s) (length s) (at_most s)
 
 pub returns : goal.returns
 returns c =
-    let l = c.args.raw_data.now in
-    (first_none is_zero l (length l) (omega arith) c.loop-i.i c.loop-i.invariant.1 c.loop-i-test.false c.loop-i.invariant.0 ∙ whole l, omega arith)
+    let s = c.args.raw_data.now in
+    let first = IsFirst-from_position _ _ _ (λ b. b ≡ 0) (λ b. b ≡ 0 → ⊥) c.position.ensures.ran (YieldsList-from_slice s cc) (λ x q k. search (rules, tests)) (λ x q k. search (rules, tests)) in
+    let e = index_from_first before_zero (λ b. b ≡ 0) (λ b. b ≡ 0 → ⊥) none hit miss s c.position.result first in
+    let is : c.unwrap_or.result ≡ before_zero s = c.unwrap_or.ensures ∙ sym e in
+    (is, rw is (at_most s))

@@ -59,27 +59,7 @@ overflow_sub-depth c =
     let vs = a.values.now in
     let there : l.i < length is / 4 = omega (arith, c.item_count-count.ensures) in
     let room : l.depth < length l.«open» = omega (arith, l.invariant.1, l.invariant.2, c.requires.0) in
-    (end_closed vs is l.i there l.«open» l.depth (omega (arith, room)) (sym c.item_word-kind.ensures ∙ c.if-kind-eq6.true) l.invariant.3).some
-
-pub loop-i-preserved-then-kind-eq6 : goal.loop-i-preserved-then-kind-eq6
-loop-i-preserved-then-kind-eq6 c =
-    let l = c.loop-i in
-    let a = c.args in
-    let t = table_of a.entries.now a.parts.now in
-    let is = a.items.now in
-    let vs = a.values.now in
-    let there : l.i < length is / 4 = omega (arith, c.item_count-count.ensures) in
-    let room : l.depth < length l.«open» = omega (arith, l.invariant.1, l.invariant.2, c.requires.0) in
-    let said : asked t (take l.depth l.«open») (mark_of vs (get_or is (4 * l.i + 0) 0) (get_or is (4 * l.i + 1) 0) (get_or is (4 * l.i + 2) 0) (get_or is (4 * l.i + 3) 0)) ≡ c.asked_item.result =
-    sym (c.asked_item.ensures ∙ mark-same t (take l.depth l.«open») vs c.item_word-kind.ensures c.item_word-id.ensures c.item_word-offset.ensures c.item_word-n.ensures) in
-    let k = sym c.item_word-kind.ensures ∙ c.if-kind-eq6.true in (
-      omega arith,
-      omega (arith, l.invariant.1),
-      l.invariant.2,
-      (end_closed vs is l.i there l.«open» l.depth (omega (arith, room)) k l.invariant.3).rest,
-      l.invariant.4 ∙ asked_end t vs is l.i there (take l.depth l.«open») (said ∙ c.if-not-asked_item.false) k
-          ∙ ap (λ (o : List ℕ). all_asked t o (drop (l.i + 1) (marks_of vs is))) (take_less l.«open» l.depth (omega (arith, room))),
-    )
+    (end_closed vs is l.i there l.«open» l.depth (omega (arith, room)) (sym c.item_word-kind.ensures ∙ c.if-kind-ne6.false) l.invariant.3).some
 
 pub loop-i-preserved : goal.loop-i-preserved
 loop-i-preserved c =
@@ -92,8 +72,28 @@ loop-i-preserved c =
     let room : l.depth < length l.«open» = omega (arith, l.invariant.1, l.invariant.2, c.requires.0) in
     let said : asked t (take l.depth l.«open») (mark_of vs (get_or is (4 * l.i + 0) 0) (get_or is (4 * l.i + 1) 0) (get_or is (4 * l.i + 2) 0) (get_or is (4 * l.i + 3) 0)) ≡ c.asked_item.result =
     sym (c.asked_item.ensures ∙ mark-same t (take l.depth l.«open») vs c.item_word-kind.ensures c.item_word-id.ensures c.item_word-offset.ensures c.item_word-n.ensures) in
+    let k = sym c.item_word-kind.ensures ∙ c.if-kind-ne6.false in (
+      omega arith,
+      omega (arith, l.invariant.1),
+      l.invariant.2,
+      (end_closed vs is l.i there l.«open» l.depth (omega (arith, room)) k l.invariant.3).rest,
+      l.invariant.4 ∙ asked_end t vs is l.i there (take l.depth l.«open») (said ∙ c.if-not-asked_item.false) k
+          ∙ ap (λ (o : List ℕ). all_asked t o (drop (l.i + 1) (marks_of vs is))) (take_less l.«open» l.depth (omega (arith, room))),
+    )
+
+pub loop-i-preserved-then-kind-ne6 : goal.loop-i-preserved-then-kind-ne6
+loop-i-preserved-then-kind-ne6 c =
+    let l = c.loop-i in
+    let a = c.args in
+    let t = table_of a.entries.now a.parts.now in
+    let is = a.items.now in
+    let vs = a.values.now in
+    let there : l.i < length is / 4 = omega (arith, c.item_count-count.ensures) in
+    let room : l.depth < length l.«open» = omega (arith, l.invariant.1, l.invariant.2, c.requires.0) in
+    let said : asked t (take l.depth l.«open») (mark_of vs (get_or is (4 * l.i + 0) 0) (get_or is (4 * l.i + 1) 0) (get_or is (4 * l.i + 2) 0) (get_or is (4 * l.i + 3) 0)) ≡ c.asked_item.result =
+    sym (c.asked_item.ensures ∙ mark-same t (take l.depth l.«open») vs c.item_word-kind.ensures c.item_word-id.ensures c.item_word-offset.ensures c.item_word-n.ensures) in
     let no0 : get_or is (4 * l.i + 0) 0 ≡ 0 → ⊥ = λ z. c.if-kind-eq0.false (c.item_word-kind.ensures ∙ z) in
-    let no6 : get_or is (4 * l.i + 0) 0 ≡ 6 → ⊥ = λ z. c.if-kind-eq6.false (c.item_word-kind.ensures ∙ z) in (
+    let no6 : get_or is (4 * l.i + 0) 0 ≡ 6 → ⊥ = λ z. c.if-kind-ne6.true (c.item_word-kind.ensures ∙ z) in (
       omega arith,
       omega (arith, l.invariant.1),
       l.invariant.2,

@@ -7,9 +7,9 @@ use Rattle.tag_writer.proofs.asking.goes_in.Goals as goal
 pub returns-then-is_anywhere : goal.returns-then-is_anywhere
 returns-then-is_anywhere c =
     let a = c.args in
-    goes_anywhere a.entries.now a.parts.now (take a.depth a.ids.now) a.id c.get_path_by_id-path.result c.get_path_by_id-path.ensures (sym c.is_anywhere.ensures ∙ c.if-is_anywhere.true)
+    c.if-is_anywhere.true ∙ goes_anywhere a.entries.now a.parts.now (take a.depth a.ids.now) a.id c.get_path_by_id-path.result c.get_path_by_id-path.ensures (sym c.is_anywhere.ensures ∙ c.if-is_anywhere.true)
 
-pub returns : goal.returns
-returns c =
+pub returns-else-is_anywhere : goal.returns-else-is_anywhere
+returns-else-is_anywhere c =
     let a = c.args in
     goes_there a.entries.now a.parts.now (take a.depth a.ids.now) a.id c.get_path_by_id-path.result c.get_path_by_id-path.ensures c.is_stack.result (sym c.is_anywhere.ensures ∙ c.if-is_anywhere.false) c.is_stack.ensures

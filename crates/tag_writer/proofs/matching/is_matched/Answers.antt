@@ -26,7 +26,7 @@ returns-then-depth-eq0 c =
     let l = c.loop-i in
     let a = c.args in
     let there : l.i < length a.items.now / 4 = omega (arith, c.item_count-count.ensures) in
-    λ vals. sym (sym (l.invariant.3 vals) ∙ end_none vals a.items.now l.i there l.«open» l.depth (sym c.item_word-kind.ensures ∙ c.if-kind-eq6.true) c.if-depth-eq0.true)
+    λ vals. sym (sym (l.invariant.3 vals) ∙ end_none vals a.items.now l.i there l.«open» l.depth (sym c.item_word-kind.ensures ∙ c.if-kind-ne6.false) c.if-depth-eq0.true)
 
 pub returns-then-open-depth : goal.returns-then-open-depth
 returns-then-open-depth c =
@@ -36,10 +36,10 @@ returns-then-open-depth c =
     let some : l.depth ≡ 0 → ⊥ = c.if-depth-eq0.false in
     let k : l.depth - 1 + 1 ≡ l.depth = omega arith in
     let room : l.depth ≤ length l.«open» = omega (arith, l.invariant.1, l.invariant.2, c.requires) in
-    λ vals. sym (sym (l.invariant.3 vals) ∙ end_other vals a.items.now l.i there l.«open» (l.depth - 1) l.depth (sym c.item_word-kind.ensures ∙ c.if-kind-eq6.true) k room (λ z. c.if-open-depth.true (z ∙ sym c.item_word-id.ensures)))
+    λ vals. sym (sym (l.invariant.3 vals) ∙ end_other vals a.items.now l.i there l.«open» (l.depth - 1) l.depth (sym c.item_word-kind.ensures ∙ c.if-kind-ne6.false) k room (λ z. c.if-open-depth.true (z ∙ sym c.item_word-id.ensures)))
 
-pub loop-i-preserved-else-open-depth : goal.loop-i-preserved-else-open-depth
-loop-i-preserved-else-open-depth c =
+pub loop-i-preserved : goal.loop-i-preserved
+loop-i-preserved c =
     let l = c.loop-i in
     let a = c.args in
     let there : l.i < length a.items.now / 4 = omega (arith, c.item_count-count.ensures) in
@@ -49,18 +49,18 @@ loop-i-preserved-else-open-depth c =
       omega arith,
       omega (arith, l.invariant.1),
       l.invariant.2,
-      λ vals. end_same vals a.items.now l.i there l.«open» (l.depth - 1) l.depth (sym c.item_word-kind.ensures ∙ c.if-kind-eq6.true) k room (c.if-open-depth.false ∙ c.item_word-id.ensures) ∙ l.invariant.3 vals,
+      λ vals. end_same vals a.items.now l.i there l.«open» (l.depth - 1) l.depth (sym c.item_word-kind.ensures ∙ c.if-kind-ne6.false) k room (c.if-open-depth.false ∙ c.item_word-id.ensures) ∙ l.invariant.3 vals,
     )
 
-pub loop-i-preserved : goal.loop-i-preserved
-loop-i-preserved c =
+pub loop-i-preserved-then-kind-ne6 : goal.loop-i-preserved-then-kind-ne6
+loop-i-preserved-then-kind-ne6 c =
     let l = c.loop-i in
     let a = c.args in
     let there : l.i < length a.items.now / 4 = omega (arith, c.item_count-count.ensures) in (
       omega arith,
       omega (arith, l.invariant.1),
       l.invariant.2,
-      λ vals. value_matched vals a.items.now l.i there (top_down l.«open» l.depth) (λ z. c.if-kind-eq0.false (c.item_word-kind.ensures ∙ z)) (λ z. c.if-kind-eq6.false (c.item_word-kind.ensures ∙ z)) ∙ l.invariant.3 vals,
+      λ vals. value_matched vals a.items.now l.i there (top_down l.«open» l.depth) (λ z. c.if-kind-eq0.false (c.item_word-kind.ensures ∙ z)) (λ z. c.if-kind-ne6.true (c.item_word-kind.ensures ∙ z)) ∙ l.invariant.3 vals,
     )
 
 pub returns : goal.returns

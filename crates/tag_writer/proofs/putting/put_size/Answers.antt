@@ -12,25 +12,25 @@ use Rattle.tag_writer.proofs.putting.put_size.Goals as goal
 pub put_part-requires : goal.put_part-requires
 put_part-requires c =
     let n = c.args.n in
-    let w = size_is n _ _ _ c.requires.0 refl c.as_vint.ensures c.in-Length.is in
+    let w = size_is n _ _ _ c.requires.0 refl c.as_vint.ensures c.in-Ok.is in
     let l = size_room n _ _ _ c.requires.0 refl c.as_vint.ensures in
     (omega (arith, l, w, (size_short n).1), omega (arith, w, c.requires.1))
 
 pub overflow_add-result : goal.overflow_add-result
 overflow_add-result c =
-    let w = size_is c.args.n _ _ _ c.requires.0 refl c.as_vint.ensures c.in-Length.is in
+    let w = size_is c.args.n _ _ _ c.requires.0 refl c.as_vint.ensures c.in-Ok.is in
     record { fits = omega (arith, w, c.requires.1) }
 
-pub returns-in-Length : goal.returns-in-Length
-returns-in-Length c =
+pub returns-in-Ok : goal.returns-in-Ok
+returns-in-Ok c =
     let a = c.args in
-    let w = size_is a.n _ _ _ c.requires.0 refl c.as_vint.ensures c.in-Length.is in
+    let w = size_is a.n _ _ _ c.requires.0 refl c.as_vint.ensures c.in-Ok.is in
     let first = size_first a.n _ _ _ c.requires.0 refl c.as_vint.ensures in (
       ap (λ (j : ℕ). a.at + j) w,
       c.put_part.ensures ∙ ap (λ (j : ℕ). paste a.out.now a.at (take j (drop 0 c.as_vint.new.out)) j) w
           ∙ ap (λ (l : List ℕ). paste a.out.now a.at l (vint_width a.n)) first,
     )
 
-pub returns-in-Refused : goal.returns-in-Refused
-returns-in-Refused c =
-    absurd (size_never c.args.n _ _ _ c.requires.0 refl c.as_vint.ensures c.in-Refused.is)
+pub returns-in-Err : goal.returns-in-Err
+returns-in-Err c =
+    absurd (size_never c.args.n _ _ _ c.requires.0 refl c.as_vint.ensures c.in-Err.is)

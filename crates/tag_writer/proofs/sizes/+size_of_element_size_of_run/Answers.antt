@@ -6,6 +6,7 @@ use native.Mathlib.Omega.{arith}
 use lib.ListN.{length, get_or}
 use Rattle.tag_writer.specs.Document.{payload, header_bytes}
 use Rattle.tag_writer.specs.Items.{value_at}
+use Rattle.tag_writer.proofs.Tests.{and_then, and_else}
 use Rattle.tag_writer.proofs.KeptSizes.{kept_all, kept_both, kept_less, kept_set, in_none, in_same, in_both}
 use Rattle.tag_writer.proofs.Sums.{element_there, inner_run, master_sized, master_in_lem, value_sized, value_in, value_small, past_sized, end_sized, first_element, other_elements, next_later, run_sized, sum_bound, run_small}
 use Rattle.tag_writer.proofs.sizes.+size_of_element_size_of_run.Goals as goal
@@ -76,8 +77,8 @@ size_of_element-overflow_add-result-then-kind-eq0 t c =
       fits = omega (arith, (run_small vs is (c.args.at + 1) c.requires.0 (inner_run vs is c.args.at there kind c.requires.1) r.result r.ensures.0 (omega (arith, there))).1);
     }
 
-pub size_of_element-returns-then-kind-eq0 : goal.size_of_element-returns-then-kind-eq0
-size_of_element-returns-then-kind-eq0 t c =
+pub size_of_element-returns-then-small_enough : goal.size_of_element-returns-then-small_enough
+size_of_element-returns-then-small_enough t c =
     let vs = c.args.values.now in
     let is = c.args.items.now in
     let at = c.args.at in
@@ -86,8 +87,24 @@ size_of_element-returns-then-kind-eq0 t c =
     let r = c.size_of_run-inside in
     let size = r.result.size in
     let room : at < length r.new.sizes = omega (arith, r.auto.sizes, c.requires.2, there) in (
-      master_sized vs is at there kind r.result c.header_size.result c.small_enough.result c.both.result r.ensures.0
-          (c.header_size.ensures.0 ∙ ap (λ (x : ℕ). length (header_bytes x size)) c.item_word-id.ensures) c.small_enough.ensures c.both.ensures,
+      master_sized vs is at there kind r.result c.header_size.result c.small_enough.result r.result.fits r.ensures.0
+          (c.header_size.ensures.0 ∙ ap (λ (x : ℕ). length (header_bytes x size)) c.item_word-id.ensures) c.small_enough.ensures (and_then c.if-small_enough.true),
+      master_in_lem vs is at there kind r.result r.ensures.0 c.requires.1 room r.ensures.1,
+      kept_both (omega arith) (kept_less (omega arith) r.ensures.2) (kept_set at size r.new.sizes),
+    )
+
+pub size_of_element-returns-else-small_enough : goal.size_of_element-returns-else-small_enough
+size_of_element-returns-else-small_enough t c =
+    let vs = c.args.values.now in
+    let is = c.args.items.now in
+    let at = c.args.at in
+    let there = element_there vs is at c.requires.1 in
+    let kind = sym c.item_word-kind.ensures ∙ c.if-kind-eq0.true in
+    let r = c.size_of_run-inside in
+    let size = r.result.size in
+    let room : at < length r.new.sizes = omega (arith, r.auto.sizes, c.requires.2, there) in (
+      master_sized vs is at there kind r.result c.header_size.result c.small_enough.result c.small_enough.result r.ensures.0
+          (c.header_size.ensures.0 ∙ ap (λ (x : ℕ). length (header_bytes x size)) c.item_word-id.ensures) c.small_enough.ensures (and_else _ c.if-small_enough.false),
       master_in_lem vs is at there kind r.result r.ensures.0 c.requires.1 room r.ensures.1,
       kept_both (omega arith) (kept_less (omega arith) r.ensures.2) (kept_set at size r.new.sizes),
     )
@@ -174,8 +191,8 @@ size_of_run-overflow_add-result t c =
     let o = c.size_of_run-others in
     record { fits = omega (arith, sum_bound vs is at there no_end f.result f.ensures.0 o.result o.ensures.0 c.requires.0 c.requires.1) }
 
-pub size_of_run-returns : goal.size_of_run-returns
-size_of_run-returns t c =
+pub size_of_run-returns-then-first : goal.size_of_run-returns-then-first
+size_of_run-returns-then-first t c =
     let vs = c.args.values.now in
     let is = c.args.items.now in
     let at = c.args.at in
@@ -184,7 +201,22 @@ size_of_run-returns t c =
     let f = c.size_of_element-first in
     let o = c.size_of_run-others in
     let later = next_later vs is at there no_end f.result f.ensures.0 c.requires.1 in (
-      run_sized vs is at there no_end f.result f.ensures.0 o.result o.ensures.0 c.both.result c.both.ensures,
+      run_sized vs is at there no_end f.result f.ensures.0 o.result o.ensures.0 o.result.fits (and_then c.if-first.true),
+      in_both _ (in_same _ f.ensures.1 (λ j a u. o.ensures.2.same j u)) o.ensures.1,
+      kept_both (omega (arith, later)) f.ensures.2 o.ensures.2,
+    )
+
+pub size_of_run-returns-else-first : goal.size_of_run-returns-else-first
+size_of_run-returns-else-first t c =
+    let vs = c.args.values.now in
+    let is = c.args.items.now in
+    let at = c.args.at in
+    let there : at < length is / 4 = omega (arith, c.item_count.ensures, c.if-item_count-at.false) in
+    let no_end : get_or is (4 * at + 0) 0 ≡ 6 → ⊥ = λ z. c.if-item_word-eq6.false (c.item_word.ensures ∙ z) in
+    let f = c.size_of_element-first in
+    let o = c.size_of_run-others in
+    let later = next_later vs is at there no_end f.result f.ensures.0 c.requires.1 in (
+      run_sized vs is at there no_end f.result f.ensures.0 o.result o.ensures.0 f.result.fits (and_else _ c.if-first.false),
       in_both _ (in_same _ f.ensures.1 (λ j a u. o.ensures.2.same j u)) o.ensures.1,
       kept_both (omega (arith, later)) f.ensures.2 o.ensures.2,
     )

@@ -32,4 +32,4 @@ unfolding least_from
 returns c =
     let l = c.loop-width in
     let e : l.width ≡ 8 = omega arith in
-    (e ∙ (rw e at l.invariant.2), l.invariant.1)
+    (rw e at l.invariant.2, omega arith)

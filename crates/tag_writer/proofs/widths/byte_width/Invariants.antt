@@ -13,6 +13,3 @@ test less m k = ltb m (2 ^ (8 * k - less))
 abbrev pub invariant-loop-width : goal.invariant-loop-width
 invariant-loop-width l =
     (l.from ≤ l.width) × (l.width ≤ 8) × (least_from (test l.less l.m) (8 - l.width) l.width ≡ least_from (test l.less l.m) (8 - l.from) l.from)
-
-abbrev pub decreases-loop-width : goal.decreases-loop-width
-decreases-loop-width l = 8 - l.width

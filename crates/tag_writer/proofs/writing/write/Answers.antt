@@ -1,7 +1,7 @@
 -- `tag_writer::writing::write`: one law for each answer. Assumes nothing.
 use Prim.Native.Nat.{ℕ, ◌/◌, ◌%◌, ◌≤◌}
-use mathlib.Core.Path.{◌≡◌, sym, ap, subst, ◌∙◌}
-use mathlib.Core.Bool.{true}
+use mathlib.Core.Path.{◌≡◌, refl, sym, ap, subst, ◌∙◌}
+use mathlib.Core.Bool.{true, false}
 use mathlib.Core.List.{List, []}
 use native.Mathlib.Omega.{arith}
 use borrow.Author.Tests.{not-true, not-false}
@@ -13,36 +13,44 @@ use Rattle.tag_writer.specs.Flat.{all_asked}
 use Rattle.tag_writer.specs.Items.{marks_of, matched}
 use Rattle.tag_writer.specs.Sizing.{SizesIn}
 use Rattle.tag_writer.specs.Write.{is_passed}
-use Rattle.tag_writer.specs.declared.types.Wrote.{Wrote}
-use Rattle.tag_writer.specs.declared.types.Wrote.TheVariants.{Written}
 use Rattle.tag_writer.proofs.WriteLaws.{fails_40, fails_41, fails_42, fails_words, fails_43, sizable, whole_run, all_sized_lem, fails_size, fails_44, bytes_count, writes}
 use Rattle.tag_writer.proofs.writing.write.Goals as goal
+use Rattle.std.specs.Prelude.{Ok, Err, Result}
+use Rattle.std.proofs.lemmas.Result.{err_from_is_err_and}
+use Rattle.table.specs.declared.types.TableError.{TableError}
+use Rattle.table.specs.declared.types.TableError.TheVariants as fault
+use Rattle.tag_writer.specs.declared.types.WriteError.{WriteError}
 
-made : {m n : ℕ} {o u : List ℕ} → m ≡ n → o ≡ u → ◌≡◌ {A = Wrote × List ℕ} (Written m, o) (Written n, u)
+made : {m n : ℕ} {o u : List ℕ} → m ≡ n → o ≡ u → ◌≡◌ {A = Result ℕ WriteError × List ℕ} (Ok m, o) (Ok n, u)
 made e f = rw (e, f)
 
-pub returns-then-not-is_passed : goal.returns-then-not-is_passed
-returns-then-not-is_passed c =
+fault_fails : (e : TableError) → is_passed (Err e) ≡ false
+fault_fails fault.BadShape = refl
+fault_fails (fault.Fault rule entry) = refl
+
+pub returns-in_err-check_table : goal.returns-in_err-check_table
+returns-in_err-check_table c =
     let a = c.args in
-    gives (fails_40 a.entries.now a.parts.now a.items.now a.values.now a.out.now (ap is_passed (sym c.check_table.ensures) ∙ sym c.is_passed.ensures ∙ c.if-not-is_passed.true))
+    let p = err_from_is_err_and c.from_residual.result c.from_residual.ensures.1 in
+    rw (p.1, p.2) (gives (fails_40 a.entries.now a.parts.now a.items.now a.values.now a.out.now (ap is_passed (sym c.check_table.ensures ∙ c.in_err-check_table.was) ∙ fault_fails _)))
 
 pub returns-then-item_count-gt-MOST_ITEMS : goal.returns-then-item_count-gt-MOST_ITEMS
 returns-then-item_count-gt-MOST_ITEMS c =
     let a = c.args in
-    let passes : is_passed (check_table a.entries.now a.parts.now) ≡ true = ap is_passed (sym c.check_table.ensures) ∙ sym c.is_passed.ensures ∙ c.if-not-is_passed.false in
+    let passes : is_passed (check_table a.entries.now a.parts.now) ≡ true = ap is_passed (sym c.check_table.ensures ∙ c.in_ok-check_table.was) in
     gives (fails_41 a.entries.now a.parts.now a.items.now a.values.now a.out.now passes (omega (arith, c.item_count.ensures, c.if-item_count-gt-MOST_ITEMS.true)))
 
 pub returns-then-not-is_matched : goal.returns-then-not-is_matched
 returns-then-not-is_matched c =
     let a = c.args in
-    let passes : is_passed (check_table a.entries.now a.parts.now) ≡ true = ap is_passed (sym c.check_table.ensures) ∙ sym c.is_passed.ensures ∙ c.if-not-is_passed.false in
+    let passes : is_passed (check_table a.entries.now a.parts.now) ≡ true = ap is_passed (sym c.check_table.ensures ∙ c.in_ok-check_table.was) in
     let few : length a.items.now / 4 ≤ 512 = omega (arith, c.item_count.ensures, c.if-item_count-gt-MOST_ITEMS.false) in
     gives (fails_42 a.entries.now a.parts.now a.items.now a.values.now a.out.now passes few (sym (c.is_matched.ensures a.values.now) ∙ c.if-not-is_matched.true))
 
 pub returns-then-items-ne0 : goal.returns-then-items-ne0
 returns-then-items-ne0 c =
     let a = c.args in
-    let passes : is_passed (check_table a.entries.now a.parts.now) ≡ true = ap is_passed (sym c.check_table.ensures) ∙ sym c.is_passed.ensures ∙ c.if-not-is_passed.false in
+    let passes : is_passed (check_table a.entries.now a.parts.now) ≡ true = ap is_passed (sym c.check_table.ensures ∙ c.in_ok-check_table.was) in
     let few : length a.items.now / 4 ≤ 512 = omega (arith, c.item_count.ensures, c.if-item_count-gt-MOST_ITEMS.false) in
     let match : matched [] (marks_of a.values.now a.items.now) ≡ true = sym (c.is_matched.ensures a.values.now) ∙ c.if-not-is_matched.false in
     gives (fails_words a.entries.now a.parts.now a.items.now a.values.now a.out.now passes few match c.if-items-ne0.true)
@@ -50,7 +58,7 @@ returns-then-items-ne0 c =
 pub returns-then-not-all_asked : goal.returns-then-not-all_asked
 returns-then-not-all_asked c =
     let a = c.args in
-    let passes : is_passed (check_table a.entries.now a.parts.now) ≡ true = ap is_passed (sym c.check_table.ensures) ∙ sym c.is_passed.ensures ∙ c.if-not-is_passed.false in
+    let passes : is_passed (check_table a.entries.now a.parts.now) ≡ true = ap is_passed (sym c.check_table.ensures ∙ c.in_ok-check_table.was) in
     let few : length a.items.now / 4 ≤ 512 = omega (arith, c.item_count.ensures, c.if-item_count-gt-MOST_ITEMS.false) in
     let match : matched [] (marks_of a.values.now a.items.now) ≡ true = sym (c.is_matched.ensures a.values.now) ∙ c.if-not-is_matched.false in
     gives (fails_43 a.entries.now a.parts.now a.items.now a.values.now a.out.now passes few match (sym c.all_asked.ensures ∙ c.if-not-all_asked.true))
@@ -58,7 +66,7 @@ returns-then-not-all_asked c =
 pub size_of_run-all-requires : goal.size_of_run-all-requires
 size_of_run-all-requires c =
     let a = c.args in
-    let passes : is_passed (check_table a.entries.now a.parts.now) ≡ true = ap is_passed (sym c.check_table.ensures) ∙ sym c.is_passed.ensures ∙ c.if-not-is_passed.false in
+    let passes : is_passed (check_table a.entries.now a.parts.now) ≡ true = ap is_passed (sym c.check_table.ensures ∙ c.in_ok-check_table.was) in
     let few : length a.items.now / 4 ≤ 512 = omega (arith, c.item_count.ensures, c.if-item_count-gt-MOST_ITEMS.false) in
     let match : matched [] (marks_of a.values.now a.items.now) ≡ true = sym (c.is_matched.ensures a.values.now) ∙ c.if-not-is_matched.false in
     let words : length a.items.now % 4 ≡ 0 = omega (arith, c.if-items-ne0.false) in
@@ -71,7 +79,7 @@ size_of_run-all-requires c =
 pub returns-then-not-all : goal.returns-then-not-all
 returns-then-not-all c =
     let a = c.args in
-    let passes : is_passed (check_table a.entries.now a.parts.now) ≡ true = ap is_passed (sym c.check_table.ensures) ∙ sym c.is_passed.ensures ∙ c.if-not-is_passed.false in
+    let passes : is_passed (check_table a.entries.now a.parts.now) ≡ true = ap is_passed (sym c.check_table.ensures ∙ c.in_ok-check_table.was) in
     let few : length a.items.now / 4 ≤ 512 = omega (arith, c.item_count.ensures, c.if-item_count-gt-MOST_ITEMS.false) in
     let match : matched [] (marks_of a.values.now a.items.now) ≡ true = sym (c.is_matched.ensures a.values.now) ∙ c.if-not-is_matched.false in
     let words : length a.items.now % 4 ≡ 0 = omega (arith, c.if-items-ne0.false) in
@@ -81,7 +89,7 @@ returns-then-not-all c =
 pub returns-then-out-size : goal.returns-then-out-size
 returns-then-out-size c =
     let a = c.args in
-    let passes : is_passed (check_table a.entries.now a.parts.now) ≡ true = ap is_passed (sym c.check_table.ensures) ∙ sym c.is_passed.ensures ∙ c.if-not-is_passed.false in
+    let passes : is_passed (check_table a.entries.now a.parts.now) ≡ true = ap is_passed (sym c.check_table.ensures ∙ c.in_ok-check_table.was) in
     let few : length a.items.now / 4 ≤ 512 = omega (arith, c.item_count.ensures, c.if-item_count-gt-MOST_ITEMS.false) in
     let match : matched [] (marks_of a.values.now a.items.now) ≡ true = sym (c.is_matched.ensures a.values.now) ∙ c.if-not-is_matched.false in
     let words : length a.items.now % 4 ≡ 0 = omega (arith, c.if-items-ne0.false) in
@@ -91,7 +99,7 @@ returns-then-out-size c =
 pub put_items-requires : goal.put_items-requires
 put_items-requires c =
     let a = c.args in
-    let passes : is_passed (check_table a.entries.now a.parts.now) ≡ true = ap is_passed (sym c.check_table.ensures) ∙ sym c.is_passed.ensures ∙ c.if-not-is_passed.false in
+    let passes : is_passed (check_table a.entries.now a.parts.now) ≡ true = ap is_passed (sym c.check_table.ensures ∙ c.in_ok-check_table.was) in
     let few : length a.items.now / 4 ≤ 512 = omega (arith, c.item_count.ensures, c.if-item_count-gt-MOST_ITEMS.false) in
     let match : matched [] (marks_of a.values.now a.items.now) ≡ true = sym (c.is_matched.ensures a.values.now) ∙ c.if-not-is_matched.false in
     let words : length a.items.now % 4 ≡ 0 = omega (arith, c.if-items-ne0.false) in
@@ -108,7 +116,7 @@ put_items-requires c =
 pub returns : goal.returns
 returns c =
     let a = c.args in
-    let passes : is_passed (check_table a.entries.now a.parts.now) ≡ true = ap is_passed (sym c.check_table.ensures) ∙ sym c.is_passed.ensures ∙ c.if-not-is_passed.false in
+    let passes : is_passed (check_table a.entries.now a.parts.now) ≡ true = ap is_passed (sym c.check_table.ensures ∙ c.in_ok-check_table.was) in
     let few : length a.items.now / 4 ≤ 512 = omega (arith, c.item_count.ensures, c.if-item_count-gt-MOST_ITEMS.false) in
     let match : matched [] (marks_of a.values.now a.items.now) ≡ true = sym (c.is_matched.ensures a.values.now) ∙ c.if-not-is_matched.false in
     let words : length a.items.now % 4 ≡ 0 = omega (arith, c.if-items-ne0.false) in

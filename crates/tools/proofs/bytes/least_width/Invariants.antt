@@ -1,6 +1,6 @@
 -- `tools::bytes::least_width`. The invariant: no width passed holds m, so the least from here on is the least of all.
 -- Assumes nothing.
-use Prim.Native.Nat.{ℕ, ◌-◌, ◌*◌, ◌^◌, ◌≤◌}
+use Prim.Native.Nat.{ℕ, ◌-◌, ◌*◌, ◌^◌}
 use mathlib.Core.Path.{◌≡◌}
 use mathlib.Core.Bool.{Bool}
 use lib.Dec.{ltb}
@@ -11,7 +11,4 @@ abbrev pub test : ℕ → ℕ → ℕ → Bool
 test less m L = ltb m (2 ^ (7 * L - less))
 
 abbrev pub invariant-loop-width : goal.invariant-loop-width
-invariant-loop-width l = (1 ≤ l.width) × (l.width ≤ 8) × (least_from (test l.less l.m) (8 - l.width) l.width ≡ width_for l.less l.m)
-
-abbrev pub decreases-loop-width : goal.decreases-loop-width
-decreases-loop-width l = 8 - l.width
+invariant-loop-width l = least_from (test l.less l.m) (8 - l.width) l.width ≡ width_for l.less l.m

@@ -1,6 +1,6 @@
 -- `tools::element_id::element_id_length`. The invariant: it is an ID of no length passed, so the least from here on is the
 -- least of all. Assumes nothing.
-use Prim.Native.Nat.{ℕ, ◌-◌, ◌≤◌}
+use Prim.Native.Nat.{ℕ, ◌-◌}
 use mathlib.Core.Path.{◌≡◌}
 use mathlib.Core.Bool.{Bool}
 use Rattle.tools.specs.Vint.{least_from}
@@ -11,7 +11,4 @@ abbrev pub test : ℕ → ℕ → Bool
 test x L = is_id_of L x
 
 abbrev pub invariant-loop-length : goal.invariant-loop-length
-invariant-loop-length l = (1 ≤ l.length) × (l.length ≤ 9) × (least_from (test l.id) (9 - l.length) l.length ≡ element_id_length l.id)
-
-abbrev pub decreases-loop-length : goal.decreases-loop-length
-decreases-loop-length l = 9 - l.length
+invariant-loop-length l = least_from (test l.id) (9 - l.length) l.length ≡ element_id_length l.id

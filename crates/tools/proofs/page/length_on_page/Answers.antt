@@ -5,4 +5,4 @@ use Rattle.tools.proofs.page.length_on_page.Goals as goal
 
 pub returns : goal.returns
 unfolding vint_lengths
-returns c = on_page c.args.first c.ranges.first.fits
+returns c = rw (c.from-2.ensures, c.from.ensures) (on_page c.args.first c.ranges.first.fits)

@@ -4,10 +4,10 @@ use native.Mathlib.Omega.{arith}
 use Rattle.whole.specs.Line.{size_text}
 use Rattle.whole.proofs.line.put_size.Goals as goal
 
-pub returns-in-Nothing : goal.returns-in-Nothing
+pub returns-in-None : goal.returns-in-None
 unfolding size_text
-returns-in-Nothing c = rw c.in-Nothing.is (within (omega arith) (c.put_text.ensures))
+returns-in-None c = rw c.in-None.is (within (omega arith) (c.put_text.ensures))
 
-pub returns-in-Number : goal.returns-in-Number
+pub returns-in-Some : goal.returns-in-Some
 unfolding size_text
-returns-in-Number c = rw c.in-Number.is (within (omega arith) (and_then c.put_number-after_size.ensures c.put_text-in-Number.ensures))
+returns-in-Some c = rw c.in-Some.is (within (omega arith) (and_then c.put_number-after_size.ensures c.put_text-in-Some.ensures))
