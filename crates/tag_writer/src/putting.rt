@@ -16,7 +16,10 @@ pub fn put_part(values: &[u8], from: usize, n: usize, out: &mut [u8], at: usize)
     requires { (from + n ≤ length values.now) × (at + n ≤ length out.old) }
     ensures { out.new ≡ paste out.old at (take n (drop from values.now)) n }
 {
-    out[at..at + n].copy_from_slice(&values[from..from + n]);
+    // not `copy_from_slice`: it calls `memmove` here, and the archive for C needs no more than `memcpy` and `memset`
+    for i in 0..n {
+        out[at + i] = values[from + i];
+    }
 }
 
 // The bytes of an ID; the place after them.
