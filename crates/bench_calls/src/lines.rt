@@ -16,19 +16,19 @@ fn put(bytes: &[u8], out: &mut [u8]) -> usize
 }
 
 /// Answers every line of a script, the first on a fresh session, and gives the count of bytes of `out` that are filled.
-// The two lists of words are lent by the C drivers; the session's table has words of its own.
+/// The lent words hold the table.
 #[unsafe(no_mangle)]
 pub extern "C" fn bench_script(
     script: &[u8],
-    _entries: &mut [u64],
-    _parts: &mut [u64],
+    entries: &mut [u64],
+    parts: &mut [u64],
     out: &mut [u8],
 ) -> u64 {
     let mut session = Session::new();
     let mut answer = Line::new();
     let mut filled = 0;
     for line in script.split(|&byte| byte == b'\n') {
-        session.answer(line, &mut answer);
+        session.answer(line, entries, parts, &mut answer);
         if !answer.is_empty() {
             answer.put(b"\n");
             filled += put(answer.as_slice(), &mut out[filled..]);
