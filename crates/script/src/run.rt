@@ -16,13 +16,19 @@ const MOST_LINE: usize = 16384;
 // The most bytes of a read.
 const CHUNK: usize = 65536;
 
+// More words than a line can write: each takes two bytes, with the comma or the space before it.
+const MOST_WORDS: usize = 8192;
+
 // The most bytes that wait to be written.
 const OUTPUT: usize = 65536;
 
-// What one read leaves for the next: the session, the beginning of a line, and the answers that wait to be written.
+// What one read leaves for the next: the session and the words of its table, the beginning of a line, and the answers
+// that wait to be written.
 #[derive(Drop)]
 struct Run {
     session: Session,
+    entries: [u64; MOST_WORDS],
+    parts: [u64; MOST_WORDS],
     line: ArrayVec<u8, MOST_LINE>,
     // whether the line has had more bytes than a line may have
     is_over: bool,
@@ -34,6 +40,8 @@ impl Run {
     fn new() -> Run {
         Run {
             session: Session::new(),
+            entries: [0; MOST_WORDS],
+            parts: [0; MOST_WORDS],
             line: ArrayVec::new(),
             is_over: false,
             answer: Line::new(),
@@ -66,7 +74,12 @@ impl Run {
             self.answer.clear();
             write!(self.answer, "{BadLine}");
         } else {
-            self.session.answer(self.line.as_slice(), &mut self.answer);
+            self.session.answer(
+                self.line.as_slice(),
+                &mut self.entries,
+                &mut self.parts,
+                &mut self.answer,
+            );
         }
         if !self.answer.is_empty() {
             self.answer.put(b"\n");

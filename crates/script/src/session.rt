@@ -2,6 +2,7 @@
 
 ghost use Rattle.std.specs.Prelude.{◌≡◌, [], OnErr};
 ghost use Rattle.decoder_rules.specs.Record.{fresh};
+ghost use Rattle.script_table.specs.HeldIn.{HeldIn};
 
 use decoder_rules::types::TagDecoder;
 use script_decoder::calls::Call;
@@ -10,8 +11,8 @@ use script_text::answers::{BadLine, Line};
 use script_text::words::split_once;
 use tag_decoder::settings::new;
 
-/// The lent table, and the decoder.
-#[derive(Drop)]
+/// The lent table, whose words stand in those that the caller lends, and the decoder.
+#[derive(Clone, Copy)]
 pub struct Session {
     pub table: LentTable,
     pub decoder: TagDecoder,
@@ -20,7 +21,7 @@ pub struct Session {
 impl Session {
     /// Before the first line: the empty table, and a new decoder.
     pub fn new() -> Session
-        ensures table { result.table ≡ ([], []) }
+        ensures table { (result.table.entries ≡ 0) × (result.table.parts ≡ 0) }
         ensures decoder { result.decoder ≡ fresh }
     {
         Session {
@@ -30,34 +31,46 @@ impl Session {
     }
 
     // The answer to a line that is neither empty nor a comment, added to `out`.
-    fn call(&mut self, line: &[u8], out: &mut Line) -> Result<(), BadLine>
-        ensures { OnErr result (self.new ≡ self.old) }
+    fn call(
+        &mut self,
+        line: &[u8],
+        entries: &mut [u64],
+        parts: &mut [u64],
+        out: &mut Line,
+    ) -> Result<(), BadLine>
+        ensures held { HeldIn self.old.table entries.old parts.old → HeldIn self.new.table entries.new parts.new }
+        ensures session { OnErr result (self.new ≡ self.old) }
+        ensures entries { OnErr result (entries.new ≡ entries.old) }
+        ensures parts { OnErr result (parts.new ≡ parts.old) }
     {
         let (name, words) = match split_once(line, b' ') {
             Some((name, words)) => (name, Some(words)),
             None => (line, None),
         };
+        let table = self.table;
         if script_table::calls::is_call(name) {
-            script_table::calls::answer(line, &mut self.table, out)
+            script_table::calls::answer(line, &mut self.table, entries, parts, out)
         } else if script_writer::calls::is_call(name) {
-            script_writer::calls::answer(line, &self.table, out)
+            script_writer::calls::answer(line, table.words(entries, parts), out)
         } else if let Some(call) = Call::named(name) {
-            script_decoder::calls::answer(call, words, &self.table, &mut self.decoder, out)
+            let table = table.words(entries, parts);
+            script_decoder::calls::answer(call, words, table, &mut self.decoder, out)
         } else {
             script_numbers::answer(line, out)
         }
     }
 
     /// Puts the answer to one line into `out`, in place of what is there: `BADLINE` where the line is no call, nothing
-    /// where it is empty or a comment.
-    pub fn answer(&mut self, line: &[u8], out: &mut Line)
+    /// where it is empty or a comment. The words of the lent table stand in `entries` and `parts`.
+    pub fn answer(&mut self, line: &[u8], entries: &mut [u64], parts: &mut [u64], out: &mut Line)
+        ensures held { HeldIn self.old.table entries.old parts.old → HeldIn self.new.table entries.new parts.new }
         ensures empty { line.now ≡ [] → (out.new ≡ []) × (self.new ≡ self.old) }
     {
         out.clear();
         if matches!(line, [] | [b'#', ..]) {
             return;
         }
-        if self.call(line, out).is_err() {
+        if self.call(line, entries, parts, out).is_err() {
             out.clear();
             write!(out, "{BadLine}");
         }

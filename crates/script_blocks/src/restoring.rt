@@ -3,7 +3,7 @@
 ghost use Rattle.std.specs.Prelude.{◌≡◌, OnErr};
 
 use decoder_rules::types::TagDecoder;
-use script_table::lists::read_words;
+use script_table::lists::{is_word_list, read_words};
 use script_text::answers::{BadLine, Line};
 use script_text::reading::{MOST_BYTES, read_hex};
 use script_text::words::split_once;
@@ -21,10 +21,14 @@ pub fn answer_restore(words: &[u8], decoder: &mut TagDecoder, out: &mut Line) ->
     ensures { OnErr result (decoder.new ≡ decoder.old) }
 {
     let (list, tail) = split_once(words, b' ').ok_or(BadLine)?;
-    let words = read_words::<MOST_WORDS>(list).ok_or(BadLine)?;
+    if !is_word_list(list) {
+        return Err(BadLine);
+    }
+    let mut words = [0; MOST_WORDS];
+    let word_count = read_words(list, &mut words);
     let mut block = [0u8; BLOCK_BYTES];
-    let (front, rest) = block.split_at_mut(8 * words.len());
-    for (bytes, word) in front.chunks_exact_mut(8).zip(words.as_slice()) {
+    let (front, rest) = block.split_at_mut(8 * word_count);
+    for (bytes, word) in front.chunks_exact_mut(8).zip(&words[..word_count]) {
         bytes.copy_from_slice(&word.to_be_bytes());
     }
     let count = front.len() + read_hex(tail, rest).ok_or(BadLine)?;

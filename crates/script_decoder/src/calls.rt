@@ -8,7 +8,7 @@ use script_answers::answers::{DecodedText, RecoveredText};
 use script_answers::record::RecordText;
 use script_blocks::restoring::answer_restore;
 use script_blocks::storing::answer_store;
-use script_table::lending::LentTable;
+use script_table::lending::TableWords;
 use script_text::answers::{BadLine, Line};
 use script_text::reading::{MOST_BYTES, read_bytes};
 use tag_decoder::calls::{decode, decode_eof};
@@ -74,7 +74,7 @@ impl Call {
 fn answer_reading(
     reading: Reading,
     hex: &[u8],
-    table: &LentTable,
+    table: TableWords<'_>,
     decoder: &mut TagDecoder,
     out: &mut Line,
 ) -> Result<(), BadLine>
@@ -84,17 +84,17 @@ fn answer_reading(
     let unread = read_bytes(hex, &mut bytes).ok_or(BadLine)?;
     match reading {
         Reading::Decode => {
-            let decoded = decode(table.entries(), table.parts(), *decoder, unread);
+            let decoded = decode(table.entries, table.parts, *decoder, unread);
             *decoder = decoded.state;
             write!(out, "{}", DecodedText(&decoded));
         }
         Reading::EndOfInput => {
-            let decoded = decode_eof(table.entries(), table.parts(), *decoder, unread);
+            let decoded = decode_eof(table.entries, table.parts, *decoder, unread);
             *decoder = decoded.state;
             write!(out, "{}", DecodedText(&decoded));
         }
         Reading::Recover => {
-            let recovered = try_recover(table.entries(), table.parts(), *decoder, unread);
+            let recovered = try_recover(table.entries, table.parts, *decoder, unread);
             *decoder = recovered.state;
             write!(out, "{}", RecoveredText(&recovered));
         }
@@ -107,7 +107,7 @@ fn answer_reading(
 pub fn answer(
     call: Call,
     words: Option<&[u8]>,
-    table: &LentTable,
+    table: TableWords<'_>,
     decoder: &mut TagDecoder,
     out: &mut Line,
 ) -> Result<(), BadLine>

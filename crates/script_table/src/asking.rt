@@ -1,6 +1,6 @@
 //! What is asked of a lent table: `check`, `ended` and `path`, and strictly `sended` and `spath`.
 
-use crate::lending::{BAD_SHAPE, LentTable};
+use crate::lending::{BAD_SHAPE, TableWords};
 use crate::stack::{Stack, read_stack};
 use script_text::answers::Line;
 use script_text::reading::read_word;
@@ -62,12 +62,15 @@ fn put_checked(checked: Result<(), TableError>, out: &mut Line) {
 }
 
 /// What a question answers; of a table of bad shape only `check` can be asked.
-pub fn answer_question(question: Question, table: &LentTable, out: &mut Line) {
-    let entries = table.entries();
-    let parts = table.parts();
+pub fn answer_question(question: Question, table: TableWords<'_>, out: &mut Line) {
+    let TableWords {
+        entries,
+        parts,
+        is_good,
+    } = table;
     match question {
         Question::Check => put_checked(check_table(entries, parts), out),
-        _ if !table.has_good_shape() => write!(out, "X {BAD_SHAPE}"),
+        _ if !is_good => write!(out, "X {BAD_SHAPE}"),
         Question::Ended { strict, master, id } => {
             let is_ended = is_ended_in(strict, entries, parts, master, id);
             write!(out, "{}", u8::from(is_ended));

@@ -2,8 +2,8 @@
 
 ghost use Rattle.std.specs.Prelude.{◌≡◌, OnErr};
 
-use crate::items::read_items;
-use script_table::lending::LentTable;
+use crate::items::{MOST_WORDS, read_items};
+use script_table::lending::TableWords;
 use script_text::answers::{BadLine, Line};
 use script_text::reading::{MOST_BYTES, read_bytes, read_hex};
 use script_text::words::split_once;
@@ -34,19 +34,20 @@ fn put_wrote(wrote: Result<usize, WriteError>, out: &mut Line) {
 
 /// Answers a line that calls the writer: what the writer answers, and its output after the call. Nothing is written
 /// where the line is no call.
-pub fn answer(line: &[u8], table: &LentTable, out: &mut Line) -> Result<(), BadLine>
+pub fn answer(line: &[u8], table: TableWords<'_>, out: &mut Line) -> Result<(), BadLine>
     ensures { OnErr result (out.new ≡ out.old) }
 {
     let (items, buffer, output) = three_words(line).ok_or(BadLine)?;
-    let words = read_items(items).ok_or(BadLine)?;
+    let mut words = [0; MOST_WORDS];
+    let word_count = read_items(items, &mut words).ok_or(BadLine)?;
     let mut values = [0u8; MOST_BYTES];
     let mut document = [0u8; MOST_BYTES];
     let values = read_bytes(buffer, &mut values).ok_or(BadLine)?;
     let count = read_hex(output, &mut document).ok_or(BadLine)?;
     let wrote = write(
-        table.entries(),
-        table.parts(),
-        &words,
+        table.entries,
+        table.parts,
+        &words[..word_count],
         values,
         &mut document[..count],
     );

@@ -1,7 +1,8 @@
 //! ITEMS: a list of Starts, Ends and values, as `S:4E01,U:A2:0:8,E:4E01`, `-` for none. They become the four words of
 //! each item: its kind, its ID, and of a value where its bytes begin and how many there are.
 
-use arrayvec::ArrayVec;
+ghost use Rattle.std.specs.Prelude.{◌≤◌, length, IfSome};
+
 use script_text::reading::{read_decimal, read_word};
 use script_text::words::split_once;
 
@@ -50,14 +51,20 @@ fn read_item(item: &[u8]) -> Option<[u64; 4]> {
     }
 }
 
-/// The words of the items that a text says; what finds no room is left out.
-pub fn read_items(list: &[u8]) -> Option<ArrayVec<u64, MOST_WORDS>> {
-    let mut words = ArrayVec::new();
+/// Puts the words of the items that a text says at the front of `into`, and answers how many they are; what finds no
+/// room is left out.
+pub fn read_items(list: &[u8], into: &mut [u64]) -> Option<usize>
+    ensures { IfSome result (λ count. count ≤ length into.old) }
+{
+    let mut count = 0;
     if matches!(list, b"-") {
-        return Some(words);
+        return Some(count);
     }
     for item in list.split(|&byte| byte == b',') {
-        let _fits = words.try_extend_from_slice(&read_item(item)?);
+        let words = read_item(item)?;
+        let room = words.len().min(into.len() - count);
+        into[count..count + room].copy_from_slice(&words[..room]);
+        count += room;
     }
-    Some(words)
+    Some(count)
 }

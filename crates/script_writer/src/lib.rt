@@ -2,4 +2,4 @@
 #![tactic(auto)]
 
 pub mod calls;
-mod items;
+pub mod items;
