@@ -64,7 +64,7 @@ impl Session {
     /// where it is empty or a comment. The words of the lent table stand in `entries` and `parts`.
     pub fn answer(&mut self, line: &[u8], entries: &mut [u64], parts: &mut [u64], out: &mut Line)
         ensures held { HeldIn self.old.table entries.old parts.old → HeldIn self.new.table entries.new parts.new }
-        ensures empty { line.now ≡ [] → (out.new ≡ []) × (self.new ≡ self.old) }
+        ensures empty { line.now ≡ [] → (out.new ≡ []) × (self.new ≡ self.old) × (entries.new ≡ entries.old) × (parts.new ≡ parts.old) }
     {
         out.clear();
         if matches!(line, [] | [b'#', ..]) {

@@ -18,7 +18,8 @@ use Rattle.decoder_rules.proofs.MoveEffects.{Arrays}
 use Rattle.stored_decoder.specs.Words.{word_count, places, decoder_words, masters_in, ends_in, master_of, end_of, record_of}
 use Rattle.stored_decoder.specs.Check.{all_zero, good_words, check_words}
 use Rattle.stored_decoder.specs.Block.{block_length, words_of, store_as, from_layout1, stays, record_if_taken, restore_words, restore_layout1, restore_either, restore_from}
-use Rattle.stored_decoder.specs.Writing.{may_store, restored}
+use Rattle.stored_decoder.specs.Writing.{may_store}
+use Rattle.stored_decoder.specs.declared.types.Restored.{Restored}
 use Rattle.stored_decoder.specs.declared.types.StoreError.{StoreError}
 use Rattle.stored_decoder.specs.declared.types.StoreError.TheVariants.{BlockLength, UnknownLayout, UnusedSet, BadState}
 use Rattle.stored_decoder.proofs.InPlaces.{places-length}
@@ -130,10 +131,10 @@ module _ (n : ℕ) (stored : List ℕ) (d : TagDecoder) (lent : List ℕ) where
 -- ---- of restoring
 
 module _ (d : TagDecoder) (w : List ℕ) where
-  pub restores_accepted : check_words w ≡ Ok tt → restored d (Ok (record_of w)) ≡ restore_words d w
+  pub restores_accepted : check_words w ≡ Ok tt → ◌≡◌ {A = Restored} (record { answer = Ok tt; state = record_of w }) (restore_words d w)
   restores_accepted p = ap (record_if_taken d w) (sym p)
 
-  pub restores_refused : {x : StoreError} → check_words w ≡ Err x → restored d (Err x) ≡ restore_words d w
+  pub restores_refused : {x : StoreError} → check_words w ≡ Err x → stays d (Err x) ≡ restore_words d w
   restores_refused p = ap (record_if_taken d w) (sym p)
 
 module _ (d : TagDecoder) (b : List ℕ) where

@@ -10,6 +10,7 @@ use lib.Dec.{eqb}
 use lib.ListN.{length, get_or, take, drop, replicate, length-take, length-drop}
 use lib.Seq.{take_at, drop_at, take-add, drop-drop, get_or-take, get_or-drop}
 use Rattle.std.specs.List.{list_all}
+use Rattle.std.specs.Simd.{first_chunks}
 use Rattle.basics.specs.Lists.{every}
 use Rattle.basics.proofs.Bools.{both}
 use Rattle.stored_decoder.specs.Words.{places}
@@ -22,6 +23,12 @@ pub places-length : (size n : ℕ) (w : List ℕ) → length (places size n w) �
 unfolding places
 places-length size zero w = refl
 places-length size (suc n) w = ap suc (places-length size n (drop size w))
+
+-- the library's chunks are places
+pub chunks_are_places : (size n : ℕ) (w : List ℕ) → first_chunks size n w ≡ places size n w
+unfolding places
+chunks_are_places size zero w = refl
+chunks_are_places size (suc n) w = ap (λ (l : List (List ℕ)). take size w ∷ l) (chunks_are_places size n (drop size w))
 
 -- what stands in place i
 pub place_at : (size n : ℕ) (w : List ℕ) (i : ℕ) → i < n → get_or (places size n w) i [] ≡ take size (drop (size * i) w)

@@ -9,6 +9,7 @@ use native.Mathlib.Omega.{arith}
 use borrow.Rule.Slice.PartMut.{put_mid}
 use lib.ListN.{length, get_or, set, take, drop, replicate, length-append, length-take, length-drop, length-map, drop_of_length-le, take-append-drop, replicate-append-replicate, length-replicate}
 use lib.Seq.{sets, sets-eq, set_split, take_at, take-suc, take_all, drop-drop, drop-append-add, length-take-le}
+use Rattle.stored_decoder.specs.Words.{word_count, rest_count}
 use Rattle.stored_decoder.specs.Writing.{over}
 
 module _ {A : Type 0} where
@@ -125,6 +126,13 @@ over_part o l m h =
 pub over_put : {A : Type 0} (o n : ℕ) (l m : List A) → length l ≡ n → put_mid o n m l ≡ over o l m
 unfolding over
 over_put o n l m e = ap (λ (x : _). take o m ++ (l ++ x)) (drop-drop n o m ∙ ap (λ (k : ℕ). drop (o + k) m) (sym e))
+
+-- zeros over so many words from the 300th on, however these are counted
+pub zeros_put : (n : ℕ) (w z : List ℕ) → z ≡ replicate (length (take n (drop 300 w))) 0 → n ≡ rest_count → length w ≡ word_count
+    → put_mid 300 n w z ≡ over 300 (replicate rest_count 0) w
+zeros_put n w z zeros rest whole =
+    let cleared : length (take n (drop 300 w)) ≡ rest_count = simp (length-take, length-drop) (omega (arith, rest, whole)) in
+    ap (put_mid 300 n w) (zeros ∙ ap (λ (k : ℕ). replicate k 0) cleared) ∙ over_put 300 n (replicate rest_count 0) w (omega (arith, rest))
 
 -- so many places of so many lie within
 pub reach : (o n i k most : ℕ) → i < k → o + n * k ≤ most → o + n * i + n ≤ most

@@ -2,7 +2,6 @@
 use Rattle.std.specs.Prelude.{ℕ, ◌+◌, List, ◌++◌, length, take, drop, cond, eqb, Ok, Err, Result, ⊤}
 use Rattle.decoder_rules.specs.OneCall.{good_state}
 use Rattle.decoder_rules.specs.declared.types.TagDecoder.{TagDecoder}
-use Rattle.stored_decoder.specs.declared.types.Restored.{Restored}
 use Rattle.stored_decoder.specs.declared.types.StoreError.{StoreError}
 use Rattle.stored_decoder.specs.declared.types.StoreError.TheVariants.{BlockLength, BadState}
 
@@ -13,8 +12,3 @@ over i l m = take i m ++ (l ++ drop (i + length l) m)
 -- whether a record may be stored in room of length n, where `wanted` is wanted
 abbrev pub may_store : ℕ → ℕ → TagDecoder → Result ⊤ StoreError
 may_store wanted n d = cond (eqb n wanted) (cond (good_state d) (Ok tt) (Err BadState)) (Err BlockLength)
-
--- the answer, and the record after it: the one that was found, or the old one
-abbrev pub restored : TagDecoder → Result TagDecoder StoreError → Restored
-restored d (Ok s) = record { answer = Ok tt; state = s }
-restored d (Err e) = record { answer = Err e; state = d }

@@ -1,26 +1,26 @@
 //! A record stored as a block, and restored from one.
 
-ghost use Rattle.std.specs.Prelude.{◌≡◌, ◌+◌, ◌*◌, ◌≤◌, length};
+ghost use Rattle.std.specs.Prelude.{Ok, ◌≡◌, ◌+◌, ◌*◌, ◌≤◌, length};
 ghost use Rattle.tools.specs.Answers.{Gives};
 ghost use Rattle.stored_decoder.specs.Words.{word_count};
 ghost use Rattle.decoder_rules.specs.declared.types.TagDecoder.{TagDecoder};
-ghost use Rattle.stored_decoder.specs.Writing.{may_store, restored};
-ghost use Rattle.stored_decoder.specs.Block.{block_length, bytes_of, words_of, store_words, store_out, restore_words, restore_from};
+ghost use Rattle.stored_decoder.specs.Writing.{may_store};
+ghost use Rattle.stored_decoder.specs.Block.{block_length, bytes_of, words_of, store_words, store_out, record_if_taken, restore_words, restore_from};
 
 use crate::layout1::{IN_USE, all_zero, from_layout_1};
 use crate::taken::{check_words, good_state};
 use crate::types::{BLOCK_LENGTH, Restored, StoreError, WORD_COUNT};
 use crate::words::{put_words, record_of};
 use decoder_rules::types::TagDecoder;
-use tools::integer::unsigned_of;
 
 // The words of a block.
 fn read_words(block: &[u8], words: &mut [u64])
     requires { (length block.now ≡ block_length) × (length words.old ≡ word_count) }
     ensures { words.new ≡ words_of block.now }
 {
+    let (chunks, _) = block.as_chunks::<8>();
     for i in 0..WORD_COUNT {
-        words[i] = unsigned_of(&block[8 * i..8 * i + 8]);
+        words[i] = u64::from_be_bytes(chunks[i]);
     }
 }
 
@@ -69,62 +69,51 @@ pub fn store(d: TagDecoder, block: &mut [u8]) -> Result<(), StoreError>
     Ok(())
 }
 
-// The record of words in layout 2.
-#[tactic(auto, using(crate::proofs::Checks::accepted_length))]
-fn record_in_words(words: &[u64]) -> Result<TagDecoder, StoreError>
-    ensures { (d : TagDecoder) → restored d result ≡ restore_words d words.now }
-{
-    check_words(words)?;
-    Ok(record_of(words))
-}
-
-// The record of a block.
+// The words in layout 2 that the block holds, in either layout; whether they are a record's, and why not.
 #[tactic(auto, using(crate::proofs::Checks::restores_length, crate::proofs::Checks::restores_layout2, crate::proofs::Checks::restores_unused, crate::proofs::Checks::restores_layout1))]
-fn record_in_block(block: &[u8]) -> Result<TagDecoder, StoreError>
-    ensures { (d : TagDecoder) → restored d result ≡ restore_from d block.now }
+fn read_block(block: &[u8], words: &mut [u64]) -> Result<(), StoreError>
+    requires { length words.old ≡ word_count }
+    ensures length { length words.new ≡ word_count }
+    ensures taken { (d : TagDecoder) → record_if_taken d words.new result ≡ restore_from d block.now }
 {
     if block.len() != BLOCK_LENGTH {
         return Err(StoreError::BlockLength);
     }
-    let mut words = [0u64; WORD_COUNT];
-    read_words(block, &mut words);
+    read_words(block, words);
     if words[0] != 1 {
-        return record_in_words(&words);
+        return check_words(words);
     }
     if !all_zero(&words[IN_USE..]) {
         return Err(StoreError::UnusedSet);
     }
-    let mut wider = [0u64; WORD_COUNT];
-    from_layout_1(&words, &mut wider);
-    record_in_words(&wider)
+    let mut narrower = [0u64; WORD_COUNT];
+    narrower.copy_from_slice(words);
+    from_layout_1(&narrower, words);
+    check_words(words)
 }
 
-// The answer, and the record after it: the one that was found, or the old one.
-fn restored(d: TagDecoder, found: Result<TagDecoder, StoreError>) -> Restored
-    ensures { result ≡ restored d found }
+// The answer, and the record after it: the words' where they are taken, else the old one.
+fn record_if_taken(d: TagDecoder, words: &[u64], answer: Result<(), StoreError>) -> Restored
+    requires { answer ≡ Ok tt → length words.now ≡ word_count }
+    ensures { result ≡ record_if_taken d words.now answer }
 {
-    match found {
-        Ok(state) => Restored {
-            answer: Ok(()),
-            state,
-        },
-        Err(e) => Restored {
-            answer: Err(e),
-            state: d,
-        },
-    }
+    let state = if answer.is_ok() { record_of(words) } else { d };
+    Restored { answer, state }
 }
 
 /// The record of words in layout 2; a refusal (90, 91, 92, 11) leaves the record as it is.
+#[tactic(auto, using(crate::proofs::Checks::accepted_length))]
 pub fn restore_words(d: TagDecoder, words: &[u64]) -> Restored
     ensures { result ≡ restore_words d words.now }
 {
-    restored(d, record_in_words(words))
+    record_if_taken(d, words, check_words(words))
 }
 
 /// The record that the lent block holds, in either layout; a refusal (90, 91, 92, 11) leaves the record as it is.
 pub fn restore(d: TagDecoder, block: &[u8]) -> Restored
     ensures { result ≡ restore_from d block.now }
 {
-    restored(d, record_in_block(block))
+    let mut words = [0u64; WORD_COUNT];
+    let answer = read_block(block, &mut words);
+    record_if_taken(d, &words, answer)
 }

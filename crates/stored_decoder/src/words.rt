@@ -40,6 +40,7 @@ fn put_front(
 }
 
 /// The words of the rest, which are not in use, hold 0.
+#[tactic(auto, using(crate::proofs::Overwriting::zeros_put))]
 pub fn put_rest(words: &mut [u64])
     requires { length words.old ≡ word_count }
     ensures { words.new ≡ over 300 (replicate rest_count 0) words.old }

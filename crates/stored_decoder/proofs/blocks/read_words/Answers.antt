@@ -1,16 +1,19 @@
 -- `stored_decoder::blocks::read_words`. The invariant: the first i words are read. Assumes nothing.
-use Prim.Native.Nat.{ℕ, ◌+◌, ◌*◌, ◌-◌, ◌<◌}
+use Prim.Native.Nat.{ℕ, ◌/◌, ◌<◌}
 use mathlib.Core.Path.{◌≡◌, sym, ap, ◌∙◌}
 use mathlib.Core.List.{List, [], map}
 use native.Mathlib.Omega.{arith}
-use lib.ListN.{length, get_or, take, drop, length-set, length-map}
+use lib.ListN.{length, get_or, length-take, length-drop, length-set, length-map}
 use lib.Seq.{take_all}
+use Rattle.std.specs.Int.{w64, from_be_bytes}
+use Rattle.std.specs.Simd.{first_chunks}
 use Rattle.tools.specs.Bytes.{be_number}
 use Rattle.stored_decoder.specs.Words.{word_count, places}
 use Rattle.stored_decoder.specs.Block.{words_of}
 use Rattle.stored_decoder.specs.Writing.{over}
-use Rattle.stored_decoder.proofs.InPlaces.{places-length, place_at}
+use Rattle.stored_decoder.proofs.InPlaces.{places-length, place_at, chunks_are_places}
 use Rattle.stored_decoder.proofs.Overwriting.{over_none, over_whole, over_mapped}
+use Rattle.stored_decoder.proofs.PutBytes.{word_of_bytes}
 use Rattle.stored_decoder.proofs.blocks.read_words.Goals as goal
 
 pub loop-i-init : goal.loop-i-init
@@ -24,8 +27,10 @@ loop-i-preserved c =
     let b = c.args.block.now in
     let n : length (places 8 word_count b) ≡ word_count = places-length 8 word_count b in
     let h : i < word_count = c.loop-i-test.true in
-    let k : 8 * i + 8 - 8 * i ≡ 8 = omega arith in
-    let e : c.unsigned_of.result ≡ be_number (get_or (places 8 word_count b) i []) = c.unsigned_of.ensures ∙ ap (λ (j : ℕ). be_number (take j (drop (8 * i) b))) k ∙ ap be_number (sym (place_at 8 word_count b i h)) in
+    let p : first_chunks 8 (length b / 8) b ≡ places 8 word_count b = rw c.requires.0 (chunks_are_places 8 word_count b) in
+    let o : get_or c.as_chunks.result.0.now i [] ≡ get_or (places 8 word_count b) i [] = ap (λ (l : List (List ℕ)). get_or l i []) (c.as_chunks.ensures.front ∙ p) in
+    let l : length (get_or (places 8 word_count b) i []) ≡ 8 = rw (place_at 8 word_count b i h, length-take, length-drop) (omega (arith, c.requires.0)) in
+    let e : c.from_be_bytes.result ≡ be_number (get_or (places 8 word_count b) i []) = c.from_be_bytes.ensures ∙ ap (from_be_bytes w64) o ∙ word_of_bytes (get_or (places 8 word_count b) i []) l in
     (omega arith, simp length-set v.1, rw (v.2, e) (over_mapped be_number (places 8 word_count b) i [] c.args.words.now (omega arith) (omega (arith, c.requires.1))))
 
 pub returns : goal.returns
