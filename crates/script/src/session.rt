@@ -1,8 +1,8 @@
 //! What a line of a script answers, and what it leaves for the lines after it.
 
-ghost use Rattle.std.specs.Prelude.{◌≡◌, [], OnErr};
+ghost use Rattle.std.specs.Prelude.{ℕ, List, ◌≡◌, [], OnErr};
 ghost use Rattle.decoder_rules.specs.Record.{fresh};
-ghost use Rattle.script_table.specs.HeldIn.{HeldIn};
+ghost use Rattle.script_table.specs.HeldIn.{HeldIn, ShapeTold};
 
 use decoder_rules::types::TagDecoder;
 use script_decoder::calls::Call;
@@ -22,6 +22,7 @@ impl Session {
     /// Before the first line: the empty table, and a new decoder.
     pub fn new() -> Session
         ensures table { (result.table.entries ≡ 0) × (result.table.parts ≡ 0) }
+        ensures good { (entries : List ℕ) → (parts : List ℕ) → ShapeTold result.table entries parts }
         ensures decoder { result.decoder ≡ fresh }
     {
         Session {
@@ -39,6 +40,7 @@ impl Session {
         out: &mut Line,
     ) -> Result<(), BadLine>
         ensures held { HeldIn self.old.table entries.old parts.old → HeldIn self.new.table entries.new parts.new }
+        ensures good { ShapeTold self.old.table entries.old parts.old → ShapeTold self.new.table entries.new parts.new }
         ensures session { OnErr result (self.new ≡ self.old) }
         ensures entries { OnErr result (entries.new ≡ entries.old) }
         ensures parts { OnErr result (parts.new ≡ parts.old) }
@@ -64,6 +66,7 @@ impl Session {
     /// where it is empty or a comment. The words of the lent table stand in `entries` and `parts`.
     pub fn answer(&mut self, line: &[u8], entries: &mut [u64], parts: &mut [u64], out: &mut Line)
         ensures held { HeldIn self.old.table entries.old parts.old → HeldIn self.new.table entries.new parts.new }
+        ensures good { ShapeTold self.old.table entries.old parts.old → ShapeTold self.new.table entries.new parts.new }
         ensures empty { line.now ≡ [] → (out.new ≡ []) × (self.new ≡ self.old) × (entries.new ≡ entries.old) × (parts.new ≡ parts.old) }
     {
         out.clear();
@@ -78,6 +81,8 @@ impl Session {
 }
 
 impl Default for Session {
+    ghost is_default = { λ session. (session.decoder ≡ fresh) × ((entries : List ℕ) → (parts : List ℕ) → ShapeTold session.table entries parts) };
+
     fn default() -> Session {
         Session::new()
     }

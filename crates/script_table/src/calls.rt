@@ -1,7 +1,7 @@
 //! A line that begins with the name of a call on the table, and its answer.
 
 ghost use Rattle.std.specs.Prelude.{◌≡◌, OnErr};
-ghost use Rattle.script_table.specs.HeldIn.{HeldIn};
+ghost use Rattle.script_table.specs.HeldIn.{HeldIn, ShapeTold};
 
 use crate::asking::{answer_question, read_question};
 use crate::lending::{LentTable, lend};
@@ -26,6 +26,7 @@ pub fn answer(
     out: &mut Line,
 ) -> Result<(), BadLine>
     ensures held { HeldIn table.old entries.old parts.old → HeldIn table.new entries.new parts.new }
+    ensures good { ShapeTold table.old entries.old parts.old → ShapeTold table.new entries.new parts.new }
     ensures table { OnErr result (table.new ≡ table.old) }
     ensures entries { OnErr result (entries.new ≡ entries.old) }
     ensures parts { OnErr result (parts.new ≡ parts.old) }

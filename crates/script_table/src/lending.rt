@@ -1,8 +1,7 @@
 //! The lent table as a script keeps it from line to line, and the call `table`.
 
-ghost use Rattle.std.specs.Prelude.{◌≡◌, ◌≤◌, length, take, OnErr, OnOk};
-ghost use Rattle.table.specs.Shape.{good_shape};
-ghost use Rattle.script_table.specs.HeldIn.{HeldIn};
+ghost use Rattle.std.specs.Prelude.{ℕ, List, ◌≡◌, ◌≤◌, length, take, OnErr, OnOk};
+ghost use Rattle.script_table.specs.HeldIn.{HeldIn, ShapeTold};
 
 use crate::lists::{is_word_list, read_words};
 use script_text::answers::{BadLine, Line};
@@ -32,12 +31,13 @@ pub struct TableWords<'a> {
 impl LentTable {
     /// The empty table, which is lent before the first `table`.
     pub fn new() -> LentTable
-        ensures { (result.entries ≡ 0) × (result.parts ≡ 0) }
+        ensures words { (result.entries ≡ 0) × (result.parts ≡ 0) }
+        ensures good { (entries : List ℕ) → (parts : List ℕ) → ShapeTold result entries parts }
     {
         LentTable {
             entries: 0,
             parts: 0,
-            is_good: true,
+            is_good: good_shape(&[], &[]),
         }
     }
 
@@ -56,6 +56,8 @@ impl LentTable {
 }
 
 impl Default for LentTable {
+    ghost is_default = { λ table. (table.entries ≡ 0) × (table.parts ≡ 0) × ((entries : List ℕ) → (parts : List ℕ) → ShapeTold table entries parts) };
+
     fn default() -> LentTable {
         LentTable::new()
     }
@@ -71,7 +73,7 @@ pub(crate) fn lend(
     out: &mut Line,
 ) -> Result<(), BadLine>
     ensures held { OnOk result (HeldIn table.new entries.new parts.new) }
-    ensures good { OnOk result (table.new.is_good ≡ good_shape (take table.new.entries entries.new) (take table.new.parts parts.new)) }
+    ensures good { OnOk result (ShapeTold table.new entries.new parts.new) }
     ensures table { OnErr result (table.new ≡ table.old) }
     ensures entries { OnErr result (entries.new ≡ entries.old) }
     ensures parts { OnErr result (parts.new ≡ parts.old) }

@@ -69,7 +69,8 @@ pub fn store(d: TagDecoder, block: &mut [u8]) -> Result<(), StoreError>
     Ok(())
 }
 
-// The words in layout 2 that the block holds, in either layout; whether they are a record's, and why not.
+// Reads the block, in either layout, as words in layout 2; whether they are a record's, and why not. After a refusal the
+// words may be any.
 #[tactic(auto, using(crate::proofs::Checks::restores_length, crate::proofs::Checks::restores_layout2, crate::proofs::Checks::restores_unused, crate::proofs::Checks::restores_layout1))]
 fn read_block(block: &[u8], words: &mut [u64]) -> Result<(), StoreError>
     requires { length words.old ≡ word_count }
@@ -86,9 +87,9 @@ fn read_block(block: &[u8], words: &mut [u64]) -> Result<(), StoreError>
     if !all_zero(&words[IN_USE..]) {
         return Err(StoreError::UnusedSet);
     }
-    let mut narrower = [0u64; WORD_COUNT];
-    narrower.copy_from_slice(words);
-    from_layout_1(&narrower, words);
+    let mut layout_1 = [0u64; WORD_COUNT];
+    layout_1.copy_from_slice(words);
+    from_layout_1(&layout_1, words);
     check_words(words)
 }
 
