@@ -127,7 +127,7 @@ pub over_put : {A : Type 0} (o n : ℕ) (l m : List A) → length l ≡ n → pu
 unfolding over
 over_put o n l m e = ap (λ (x : _). take o m ++ (l ++ x)) (drop-drop n o m ∙ ap (λ (k : ℕ). drop (o + k) m) (sym e))
 
--- zeros over so many words from the 300th on, however these are counted
+-- zeros over the words from word 300 on, however many these are said to be
 pub zeros_put : (n : ℕ) (w z : List ℕ) → z ≡ replicate (length (take n (drop 300 w))) 0 → n ≡ rest_count → length w ≡ word_count
     → put_mid 300 n w z ≡ over 300 (replicate rest_count 0) w
 zeros_put n w z zeros rest whole =

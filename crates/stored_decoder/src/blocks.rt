@@ -69,8 +69,8 @@ pub fn store(d: TagDecoder, block: &mut [u8]) -> Result<(), StoreError>
     Ok(())
 }
 
-// Reads the block, in either layout, as words in layout 2; whether they are a record's, and why not. After a refusal the
-// words may be any.
+// Reads the block, in either layout, as words in layout 2; whether they are a record's, and why not. After a refusal
+// the words may be any.
 #[tactic(auto, using(crate::proofs::Checks::restores_length, crate::proofs::Checks::restores_layout2, crate::proofs::Checks::restores_unused, crate::proofs::Checks::restores_layout1))]
 fn read_block(block: &[u8], words: &mut [u64]) -> Result<(), StoreError>
     requires { length words.old ≡ word_count }
