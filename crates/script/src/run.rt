@@ -2,6 +2,7 @@
 
 ghost use Rattle.std.specs.Prelude.{◌≡◌, ◌+◌, ◌≤◌, [], OnOk};
 ghost use Rattle.arrayvec.specs.ArrayVec.{array_vec_len};
+ghost use Rattle.script_table.specs.HeldIn.{HeldIn, ShapeTold};
 
 use crate::session::Session;
 use arrayvec::ArrayVec;
@@ -23,7 +24,7 @@ const MOST_WORDS: usize = 8192;
 const OUTPUT: usize = 65536;
 
 // What one read leaves for the next: the session and the words of its table, the beginning of a line, and the answers
-// that wait to be written.
+// that wait to be written. The table's words stand in `entries` and `parts`, and it says whether their shape is good.
 #[derive(Drop)]
 struct Run {
     session: Session,
@@ -34,6 +35,8 @@ struct Run {
     is_over: bool,
     answer: Line,
     output: ArrayVec<u8, OUTPUT>,
+    ghost held: { HeldIn session.table entries parts },
+    ghost told: { ShapeTold session.table entries parts },
 }
 
 impl Run {

@@ -63,7 +63,8 @@ impl Session {
     }
 
     /// Puts the answer to one line into `out`, in place of what is there: `BADLINE` where the line is no call, nothing
-    /// where it is empty or a comment. The words of the lent table stand in `entries` and `parts`.
+    /// where it is empty or a comment. The words of the lent table stand in `entries` and `parts`; what finds no room
+    /// there is left out.
     pub fn answer(&mut self, line: &[u8], entries: &mut [u64], parts: &mut [u64], out: &mut Line)
         ensures held { HeldIn self.old.table entries.old parts.old → HeldIn self.new.table entries.new parts.new }
         ensures good { ShapeTold self.old.table entries.old parts.old → ShapeTold self.new.table entries.new parts.new }
@@ -81,9 +82,31 @@ impl Session {
 }
 
 impl Default for Session {
-    ghost is_default = { λ session. (session.decoder ≡ fresh) × ((entries : List ℕ) → (parts : List ℕ) → ShapeTold session.table entries parts) };
+    ghost is_default = { λ session. (session.table.entries ≡ 0) × (session.table.parts ≡ 0) × (session.decoder ≡ fresh) × ((entries : List ℕ) → (parts : List ℕ) → ShapeTold session.table entries parts) };
 
     fn default() -> Session {
         Session::new()
+    }
+}
+
+#[cfg(test)]
+mod tests {
+    use super::*;
+
+    // The lent words are no table: none of them is a word of the table by default.
+    #[test]
+    fn default_is_the_empty_table_and_a_new_decoder(rt: HostRuntime) {
+        let mut session = Session::default();
+        let mut out = Line::new();
+        let record = b"st a=0 m=4000000000 p=0 s=0 f=0 O=- W=- C=- V=- x=0";
+        let answers = [
+            (b"check".as_slice(), b"ok".as_slice()),
+            (b"ended 81 82".as_slice(), b"1".as_slice()),
+            (b"st".as_slice(), record.as_slice()),
+        ];
+        for (line, want) in answers {
+            session.answer(line, &mut [2; 4], &mut [2; 3], &mut out);
+            assert_eq!(rt; out.as_slice(), want);
+        }
     }
 }

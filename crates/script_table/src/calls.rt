@@ -16,8 +16,8 @@ pub fn is_call(name: &[u8]) -> bool {
     )
 }
 
-/// Answers one line; `table` is the table that is lent after it, and its words stand in `entries` and `parts`. Where the
-/// line is no call, the one that was lent stays, and nothing is written.
+/// Answers one line; `table` is the table that is lent after it, and its words stand in `entries` and `parts`, where
+/// what finds no room is left out. Where the line is no call, the one that was lent stays, and nothing is written.
 pub fn answer(
     line: &[u8],
     table: &mut LentTable,

@@ -12,7 +12,8 @@ pub fn is_word_list(list: &[u8]) -> bool {
             .all(|item| read_word(item).is_some())
 }
 
-/// Puts the words of a list at the front of `into`, and answers how many they are; what finds no room is left out.
+/// Puts the words of a list at the front of `into`, and answers how many they are; what finds no room is left out, and so
+/// is an item that is no word (`is_word_list`).
 pub fn read_words(list: &[u8], into: &mut [u64]) -> usize
     ensures { result ≤ length into.old }
 {
